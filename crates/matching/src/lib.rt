@@ -1,0 +1,1 @@
+//! The mathematics of static combining over plain lists of proposals.
