@@ -58,9 +58,9 @@ pub level-zero : levelOf 2 0 ≡ 0
 unfolding levelOf
 level-zero = refl
 
--- the level by the binary logarithm k of a number, which is cut at 19
-pub level-of-log : (s k l : ℕ) → 2 ^ k ≤ s → s < 2 * 2 ^ k → l ≡ min k 19 → levelOf 2 s ≡ l
-level-of-log s k l reached below cut =
-    let down : 2 ^ l ≤ 2 ^ k = pow-le-pow-right (omega arith) (omega arith) in
-    level-is s l (omega arith) (omega arith)
-    (λ lt. let same : 2 ^ l ≡ 2 ^ k = ap (λ i. 2 ^ i) (omega arith) in rw (add-one l, pow-succ' 2 l) (omega arith))
+-- the level is the binary logarithm k of a number, cut at 19
+pub level-of-log : (s k : ℕ) → 2 ^ k ≤ s → s < 2 * 2 ^ k → levelOf 2 s ≡ min k 19
+level-of-log s k reached below =
+    let down : 2 ^ min k 19 ≤ 2 ^ k = pow-le-pow-right (omega arith) (omega arith) in
+    level-is s (min k 19) (omega arith) (omega arith)
+    (λ lt. let same : 2 ^ min k 19 ≡ 2 ^ k = ap (λ i. 2 ^ i) (omega arith) in rw (add-one (min k 19), pow-succ' 2 (min k 19)) (omega arith))

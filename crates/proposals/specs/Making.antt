@@ -1,20 +1,16 @@
 -- What the makers make, and why they refuse, in the order in which the reasons are looked for.
 use mathlib.Core.Path.{_≡_}
 use mathlib.Core.Bool.{cond, _||_}
-use Prim.Native.Nat.{ℕ, min, max}
+use mathlib.Core.Logic.{_⊎_}
+use Prim.Native.Nat.{ℕ, _<_, min, max}
 use lib.Dec.{eqb, ltb}
 use Rattle.std.specs.declared.option.Option.{Option}
 use Rattle.std.specs.declared.option.Option.the-variants.{Some, None}
 use Rattle.proposals.specs.declared.pairs.Pair.{Pair}
 use Rattle.proposals.specs.declared.proposals.Proposal.{Proposal}
 use Rattle.proposals.specs.declared.refusals.Refusal.{Refusal}
-use Rattle.proposals.specs.declared.refusals.Reason.{Reason}
 use Rattle.proposals.specs.declared.refusals.Reason.the-variants.{SizeOutOfRange, EqualMeters, SavingOutOfRange}
-use Rattle.proposals.specs.declared.refusals.Layer.the-variants as layer
-
--- found by this layer
-abbrev pub found : Reason → Refusal
-found reason = record { reason = reason; layer = layer.Proposal }
+use Rattle.proposals.specs.Refusals.{found}
 
 -- a group has 2 to 256 meters
 abbrev pub sizeRefusal : ℕ → Option Refusal
@@ -39,3 +35,7 @@ pub record Proposes (p : Proposal) (a b s : ℕ) : Type 0 where
   pub low : p .low ≡ min a b
   pub high : p .high ≡ max a b
   pub saving : p .saving ≡ s
+
+-- p comes before q: by the lower meter, then by the higher one
+abbrev pub Before : Pair → Pair → Type 0
+Before p q = (p .low < q .low) ⊎ ((p .low ≡ q .low) × (p .high < q .high))

@@ -1,5 +1,7 @@
--- The reasons to refuse, each with its number.
+-- The reasons to refuse, each with its number, and what a refusal of this layer is.
 use Prim.Native.Nat.{ℕ}
+use Rattle.proposals.specs.declared.refusals.Refusal.{Refusal}
+use Rattle.proposals.specs.declared.refusals.Layer.the-variants as layer
 use Rattle.proposals.specs.declared.refusals.Reason.{Reason}
 use Rattle.proposals.specs.declared.refusals.Reason.the-variants.{SizeOutOfRange, EqualMeters, SavingOutOfRange, MeterOutsideGroup, AlreadyOpen, KeeperFull, NotOpen, RowTooShort, TextTooLong, BadNamesLine, NoLineFeed, NotFourFields, UnknownAct, BadField}
 
@@ -18,3 +20,7 @@ numberOf NoLineFeed = 11
 numberOf NotFourFields = 12
 numberOf UnknownAct = 13
 numberOf BadField = 14
+
+-- found by this layer
+abbrev pub found : Reason → Refusal
+found reason = record { reason = reason; layer = layer.Proposal }

@@ -1,5 +1,5 @@
 ghost use mathlib.Core.Path.{_≡_};
-ghost use Rattle.proposals.specs.Refusals.{numberOf};
+ghost use Rattle.proposals.specs.Refusals.{numberOf, found};
 
 /// Why a call refuses. Each reason has a number, by which it is reported.
 #[derive(Clone, Copy, PartialEq, Eq, Debug)]
@@ -48,6 +48,16 @@ pub enum Layer {
 pub struct Refusal {
     pub reason: Reason,
     pub layer: Layer,
+}
+
+/// The refusal that this layer finds for a reason.
+pub(crate) fn refuse(reason: Reason) -> Refusal
+    ensures { λ r. ⌜ r ≡ found reason ⌝ }
+{
+    Refusal {
+        reason,
+        layer: Layer::Proposal,
+    }
 }
 
 impl Refusal {
