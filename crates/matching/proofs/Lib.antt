@@ -1,1 +1,17 @@
 pub mod Same
+pub mod Figures
+pub mod Lists
+pub mod Ladder
+pub mod Pairs
+pub mod Kept
+pub mod Answer
+pub mod Share
+pub mod Alter
+pub mod Order
+pub mod Counts
+pub mod Blocked
+pub mod Becoming
+pub mod Patient
+pub mod Ordered
+pub mod Nearest
+pub mod Telling

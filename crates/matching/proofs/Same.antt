@@ -1,7 +1,7 @@
 -- Two proposals with the same meters and saving are one.
 use mathlib.Core.Path.{_≡_}
 use mathlib.Core.HLevel.{isProp→PathP}
-use Prim.Native.Nat.{ℕ, _<_, _≤_}
+use Prim.Native.Nat.{_<_, _≤_}
 use native.Mathlib.Bridge.{le-prop}
 use Rattle.proposals.specs.declared.proposals.Proposal.{Proposal}
 
