@@ -1,0 +1,4 @@
+pub mod Meters
+pub mod Steps
+pub mod Law
+pub mod Chain
