@@ -1,0 +1,9 @@
+pub mod Places
+pub mod Edits
+pub mod Moves
+pub mod Found
+pub mod Storing
+pub mod PatientRule
+pub mod PatientCalls
+pub mod OrderedRule
+pub mod OrderedCalls
