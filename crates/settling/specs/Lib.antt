@@ -1,0 +1,4 @@
+pub mod Kept
+pub mod Steps
+pub mod Counts
+pub mod Following
