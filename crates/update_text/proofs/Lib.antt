@@ -1,0 +1,10 @@
+pub mod Cutting
+pub mod Digits
+pub mod Joining
+pub mod Walking
+pub mod Reading
+pub mod Naming
+pub mod Writing
+pub mod Following
+pub mod Flaws
+pub mod Answering

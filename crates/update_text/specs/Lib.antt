@@ -1,0 +1,9 @@
+pub mod Cuts
+pub mod Steps
+pub mod Numbers
+pub mod Fields
+pub mod Lines
+pub mod Names
+pub mod Orders
+pub mod Writing
+pub mod Texts
