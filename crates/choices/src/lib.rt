@@ -1,4 +1,5 @@
 //! A choice of mates, one for each meter at each level, as a table.
+#![tactic(auto)]
 mod mates;
 
 pub use mates::Mates;

@@ -1,4 +1,6 @@
 //! Keepers of open proposals: what a board asks of one, and two of them, each over a table that is lent to it.
+#![tactic(auto)]
+
 mod ordering;
 mod patience;
 mod stores;

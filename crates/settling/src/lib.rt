@@ -1,4 +1,6 @@
 //! The pairs that static combining keeps of a choice, settled anew with each chosen pair that comes or goes.
+#![tactic(auto)]
+
 mod kept_pairs;
 mod rows;
 

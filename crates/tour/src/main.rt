@@ -1,4 +1,5 @@
 //! Works through a morning of one group of meters, and tells what happens in a planner's words.
+#![tactic(auto)]
 mod story;
 
 use combining::combine;

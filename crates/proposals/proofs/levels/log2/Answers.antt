@@ -8,4 +8,4 @@ returns-then-number-eq0 c = ap (level_of 2) c.if-number-eq0.true ∙ level_zero
 
 pub returns-else-number-eq0 : goal.returns-else-number-eq0
 returns-else-number-eq0 c =
-    level_of_log c.args.number c.ilog2.result c.ilog2.ensures.power_le c.ilog2.ensures.next-power-gt
+    level_of_log c.args.number c.ilog2.result c.ilog2.ensures.power_le c.ilog2.ensures.next_power_gt

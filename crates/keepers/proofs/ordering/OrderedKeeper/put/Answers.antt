@@ -10,7 +10,7 @@ returns c =
     let k₁ = c.insert.new.self in
     let k₂ = c.rechoose.new.self in
     let p = c.args.proposal in
-    let d = c.in-ok-insert.ensures.exact in
+    let d = c.in_ok-insert.ensures.exact in
     let at = c.level-level.ensures.value in
     let anew = c.rechoose.ensures in
     record {

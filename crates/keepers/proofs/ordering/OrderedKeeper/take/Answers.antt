@@ -10,8 +10,8 @@ returns c =
     let k₁ = c.remove.new.self in
     let k₂ = c.rechoose.new.self in
     let pair = c.args.pair in
-    let q = c.in-ok-closed.closed in
-    let d = c.in-ok-closed.ensures.exact in
+    let q = c.in_ok-closed.closed in
+    let d = c.in_ok-closed.ensures.exact in
     let at = c.level-freed.ensures.value in
     let anew = c.rechoose.ensures in
     record {

@@ -8,10 +8,10 @@ pub returns : goal.returns
 returns c =
     let k = c.args.self.now.store in
     let k₁ = c.insert.new.self in
-    let m = c.join-if-free.new.self in
+    let m = c.join_if_free.new.self in
     let p = c.args.proposal in
-    let d = c.in-ok-insert.ensures.exact in
-    let holds = c.join-if-free.ensures.joined in
+    let d = c.in_ok-insert.ensures.exact in
+    let holds = c.join_if_free.ensures.joined in
     record {
       sound = λ ok. put_order k k₁ m p (d ok) holds ok;
       exact = λ ok.

@@ -12,8 +12,8 @@ returns c = record {
   choice = λ hl C s small open-small.
       let l = c.args.level in
       let is = c.opened.ensures in
-      let P : List Proposal → Type 0 = λ ps. Shows (entry c.choose-in-turn.new.self) (chosen_in_turn l (elsewhere l C) ps) in
+      let P : List Proposal → Type 0 = λ ps. Shows (entry c.choose_in_turn.new.self) (chosen_in_turn l (elsewhere l C) ps) in
       let Q : List Proposal → Type 0 = λ ps. Small ps in
       subst P is
-      (c.choose-in-turn.ensures (elsewhere l C) (shows_cleared _ _ l C s small (c.clear.ensures.cleared hl)) (λ p m. small p (elsewhere_in l C p m).0) (subst Q (sym is) open-small));
+      (c.choose_in_turn.ensures (elsewhere l C) (shows_cleared _ _ l C s small (c.clear.ensures.cleared hl)) (λ p m. small p (elsewhere_in l C p m).0) (subst Q (sym is) open-small));
 }

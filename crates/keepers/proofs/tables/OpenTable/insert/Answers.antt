@@ -33,19 +33,19 @@ returns c = record {
       let n = c.len-len.result in
       let i = c.in-Err.at in
       let p = c.args.proposal in
-      let r = c.rotate-right.new.self in
+      let r = c.rotate_right.new.self in
       let ys = put_mid i (n + 1 - i) (set xs n p) r in
       let gap : Gap (opened_in c.args.self.now) p.low p.high i =
       gap_of _ p c.pair.result i c.pair.ensures (gap_in _ _ c.opened.ensures _ _ up i c.in-Err.ensures.exact)
       in
       let le : i ≤ n = let w = simp length-take at gap.within in omega arith in
       let lt : n < length xs = omega arith in
-      let long : length ys ≡ length xs = same_len_mid i (n + 1 - i) (set xs n p) r c.rotate-right.ensures.len ∙ length-set _ _ _ in
+      let long : length ys ≡ length xs = same_len_mid i (n + 1 - i) (set xs n p) r c.rotate_right.ensures.len ∙ length-set _ _ _ in
       let top : min (n + 1) (min (length ys) 4096) ≡ n + 1 = omega arith in
       record {
         new = gap_for _ _ _ _ gap;
         room = omega arith;
-        opened = ap (λ k. take k ys) top ∙ put_in xs _ r i n p le lt refl c.rotate-right.ensures.after
+        opened = ap (λ k. take k ys) top ∙ put_in xs _ r i n p le lt refl c.rotate_right.ensures.after
             ∙ ap (λ k. insert (take k xs) i p) c.len-len.ensures ∙ inserted_is _ p i gap;
         capacity = ap (λ k. min k 4096) long;
       };

@@ -20,18 +20,18 @@ returns c = record {
       let xs = c.args.self.now.table.now in
       let n = c.len-len.result in
       let i = c.in-Ok.at in
-      let r = c.rotate-left.new.self in
+      let r = c.rotate_left.new.self in
       let ys = put_mid i (n - i) xs r in
       let s : Stands (opened_in c.args.self.now) c.args.pair.low c.args.pair.high i =
       stands_in _ _ c.opened.ensures _ _ up i c.in-Ok.ensures.exact
       in
       let lt : i < n = let w = simp length-take at s.within in omega arith in
       let le : n ≤ length xs = omega arith in
-      let long : length ys ≡ length xs = same_len_mid i (n - i) xs r c.rotate-left.ensures.len in
+      let long : length ys ≡ length xs = same_len_mid i (n - i) xs r c.rotate_left.ensures.len in
       let top : min (n - 1) (min (length ys) 4096) ≡ n - 1 = omega arith in
       record {
         was = taken_is xs _ i _ _ _ up s;
-        opened = ap (λ k. take k ys) top ∙ take_out xs _ r i n lt le refl c.rotate-left.ensures.after
+        opened = ap (λ k. take k ys) top ∙ take_out xs _ r i n lt le refl c.rotate_left.ensures.after
             ∙ ap (λ k. remove (take k xs) i) c.len-len.ensures ∙ removed_is _ _ _ i up s;
         capacity = ap (λ k. min k 4096) long;
       };

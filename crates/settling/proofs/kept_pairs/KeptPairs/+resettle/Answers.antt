@@ -2,7 +2,7 @@ use Rattle.std.proofs.Common.{refl}
 use Rattle.settling.specs.Steps.{Due, Resettled}
 use Rattle.settling.proofs.Moves.{resettle_none, resettle_some, resettle_both, due_none, due_some}
 use Rattle.settling.proofs.kept_pairs.KeptPairs.+resettle.Goals as goal
-use Rattle.settling.proofs.kept_pairs.KeptPairs.+resettle.Goals.{in-Some-first, in-default-first}
+use Rattle.settling.proofs.kept_pairs.KeptPairs.+resettle.Goals.{in-Some-first, in_default-first}
 
 pub returns-in-Some-second : goal.returns-in-Some-second
 returns-in-Some-second t c =
@@ -14,7 +14,7 @@ returns-in-Some-second t c =
     let first : Resettled k₁ k₂ (Due x) =
     elim c.match-first.branch [
       | in-Some-first w ↦ due_some k₁ w.resettle.new.self k₂ x _ w.in-Some-first.is w.self-is w.resettle.ensures
-      | in-default-first w ↦ due_none k₁ k₂ x w.in-default-first.is w.self-is
+      | in_default-first w ↦ due_none k₁ k₂ x w.in_default-first.is w.self-is
     ]
     in
     let second : Resettled k₂ k₃ (Due y) =
@@ -33,7 +33,7 @@ returns-in-default-second t c =
     let first : Resettled k₁ k₂ (Due x) =
     elim c.match-first.branch [
       | in-Some-first w ↦ due_some k₁ w.resettle.new.self k₂ x _ w.in-Some-first.is w.self-is w.resettle.ensures
-      | in-default-first w ↦ due_none k₁ k₂ x w.in-default-first.is w.self-is
+      | in_default-first w ↦ due_none k₁ k₂ x w.in-default-first.is w.self-is
     ]
     in
     let second : Resettled k₂ k₂ (Due y) = due_none k₂ k₂ y c.in-default-second.is refl in

@@ -17,6 +17,6 @@ returns c =
           let p = old_matching k l P Q hl ok is in
           followed k l P Q hl ok is q c.learn.new.self
           (c.learn.ensures k hl p q (turned k l P Q hl ok is q c.forget.new.self (c.forget.ensures k hl p (forgotten_none k l P Q hl ok is))));
-      count = λ hl old is. c.count-differing.ensures ∙ differing_same P (row old) Q 256 (λ v hv. c.mates-old.ensures hl v hv ∙ sym (is v hv));
-      entries = λ hl. c.count-differing.ensures ∙ differing_same P (entry k.choice l) Q 256 (c.mates-old.ensures hl);
+      count = λ hl old is. c.count_differing.ensures ∙ differing_same P (row old) Q 256 (λ v hv. c.mates-old.ensures hl v hv ∙ sym (is v hv));
+      entries = λ hl. c.count_differing.ensures ∙ differing_same P (entry k.choice l) Q 256 (c.mates-old.ensures hl);
     }

@@ -3,7 +3,7 @@ use Rattle.settling.specs.Following.{Forgotten, row}
 use Rattle.settling.proofs.kept_pairs.KeptPairs.forget.Goals as goal
 
 pub loop-meter-preserved : goal.loop-meter-preserved
-loop-meter-preserved c = λ k hl p f. c.forget-at.ensures k hl p (c.loop-meter.invariant k hl p f)
+loop-meter-preserved c = λ k hl p f. c.forget_at.ensures k hl p (c.loop-meter.invariant k hl p f)
 
 pub returns : goal.returns
 returns c = λ k hl p f.

@@ -3,7 +3,7 @@ use Rattle.settling.specs.Following.{Learnt, row}
 use Rattle.settling.proofs.kept_pairs.KeptPairs.learn.Goals as goal
 
 pub loop-meter-preserved : goal.loop-meter-preserved
-loop-meter-preserved c = λ k hl p q f. c.learn-at.ensures k hl p q (c.loop-meter.invariant k hl p q f)
+loop-meter-preserved c = λ k hl p q f. c.learn_at.ensures k hl p q (c.loop-meter.invariant k hl p q f)
 
 pub returns : goal.returns
 returns c = λ k hl p q f.

@@ -11,5 +11,5 @@ loop-meter-preserved c =
       simp length-set c.loop-meter.invariant.0,
       λ hl. below_more _ _
           (λ k h. let ne : k ≢ n = omega arith in get_or-set_other xs n k _ 0 ne ∙ c.loop-meter.invariant.1 hl k h)
-          (let lt : n < length xs = omega arith in get_or-set_same xs n _ 0 lt ∙ c.unwrap-or.ensures ∙ ap (λ o. unwrap_or o n) c.mate.ensures ∙ shown_or (entry c.args.self.now.choice) n c.args.level (omega arith) hl),
+          (let lt : n < length xs = omega arith in get_or-set_same xs n _ 0 lt ∙ c.unwrap_or.ensures ∙ ap (λ o. unwrap_or o n) c.mate.ensures ∙ shown_or (entry c.args.self.now.choice) n c.args.level (omega arith) hl),
     )

@@ -26,5 +26,5 @@ returns c =
       removed =
           remove_sound k k₁ c.resettle.new.self c.resettle-2.new.self c.part.new.self a b l go
           c.part.ensures.parted c.resettle.ensures c.resettle-2.ensures;
-      otherwise = λ e. absurd (both_ways _ e (sym c.are-mates.ensures ∙ c.if-not-are-mates.false));
+      otherwise = λ e. absurd (both_ways _ e (sym c.are_mates.ensures ∙ c.if-not-are_mates.false));
     }
