@@ -2,7 +2,7 @@ use Rattle.std.proofs.Common.{◌≡◌, ℕ, drop, sym, refl, ap, ◌∙◌, su
 use Rattle.combining.specs.Steps.{Reached}
 use Rattle.combining.proofs.Steps.{descended, skipped, kept_free, drop_with_pair}
 use Rattle.combining.proofs.keep_level.Goals as goal
-use Rattle.combining.proofs.keep_level.Goals.{in-Some+then-meter-mate+then-mate-n, in-Some+else-meter-mate, in-default}
+use Rattle.combining.proofs.keep_level.Goals.{in-Some+then-meter-mate+then-mate-n, in-Some+else-meter-mate, in_default}
 
 pub loop-meter-init : goal.loop-meter-init
 loop-meter-init g c =
@@ -34,11 +34,11 @@ loop-meter-preserved g c =
             elim w.else-meter-mate.either [ inl x ↦ omega arith | inr x ↦ omega arith ])
             w.row-is (l.invariant.1 sound n h),
       )
-      | in-default w ↦ (
+      | in_default w ↦ (
         ap (drop c.args.n) w.row-is ∙ l.invariant.0,
         λ sound n h.
             skipped m (g.R.Reader.lawful reader sound) c.args.level l.row c.match-mate.row l.meter
-            (λ v e lt le. w.in-default.not-Some v (c.mate.ensures sound ∙ e)) w.row-is (l.invariant.1 sound n h),
+            (λ v e lt le. w.in_default.not-Some v (c.mate.ensures sound ∙ e)) w.row-is (l.invariant.1 sound n h),
       )
     ]
 

@@ -23,16 +23,16 @@ returns-then-text-gt-TEXT-LIMIT g c =
       untouched = λ _. refl {a = c.args.board.now};
     }
 
-pub returns-in-default-read : goal.returns-in-default-read
-returns-in-default-read g c =
+pub returns-in_default-read : goal.returns-in_default-read
+returns-in_default-read g c =
     let text = c.args.text.now in
     let m = g.K.Reader.meaning c.args.board.now.keeper in
     let few = c.if-text-gt-TEXT-LIMIT.false in
     let line = first_line text few c.of-lines.result c.in-Some.names c.next-part.new.self c.of-lines.ensures c.in-Some.ensures in
     record {
       serves = λ s. s;
-      fed = λ s. fed_lawfully text m (Err c.at-names-in-default-read.result) [] m s.lawful
-          (subst (λ (e : Stop). Fed text m (Err e) [] m) (sym c.at-names-in-default-read.ensures) (unnamed few c.in-Some.names line c.in-default-read.ensures));
+      fed = λ s. fed_lawfully text m (Err c.at-names-in_default-read.result) [] m s.lawful
+          (subst (λ (e : Stop). Fed text m (Err e) [] m) (sym c.at-names-in_default-read.ensures) (unnamed few c.in-Some.names line c.in_default-read.ensures));
       untouched = λ _. refl {a = c.args.board.now};
     }
 
@@ -68,7 +68,7 @@ loop-line-preserved g c =
       λ serves.
           let old = c.loop-line.invariant.2 serves in (
             c.obey-line.ensures.serves old.0,
-            line_more columns text _ _ _ n old.1.0 p old.1.1 line (c.in-default-obey-line.ensures.exact old.0 counted placing),
+            line_more columns text _ _ _ n old.1.0 p old.1.1 line (c.in_default-obey-line.ensures.exact old.0 counted placing),
           ),
     )
 
@@ -122,7 +122,7 @@ returns g c =
     let columns = c.in-Some-read.columns in
     let headed = headed_by text few c.of-lines.result c.in-Some.names c.next-part.new.self c.of-lines.ensures c.in-Some.ensures columns c.in-Some-read.ensures in
     let n = c.loop-line.done in
-    let out = none_left 10 text 0 (n + 1) c.loop-line.lines c.loop-line.invariant.1 c.in-default-next-part.ensures.0 in
+    let out = none_left 10 text 0 (n + 1) c.loop-line.lines c.loop-line.invariant.1 c.in_default-next-part.ensures.0 in
     record {
       serves = λ s. (c.loop-line.invariant.2 s).0;
       fed = λ s. let old = (c.loop-line.invariant.2 s).1 in absurd (never_out columns text m (g.K.Reader.meaning c.loop-line.board.keeper) n old.0 headed old.1 out);

@@ -15,13 +15,13 @@ returns-then-text-gt-TEXT-LIMIT g c = record {
   untouched = λ _. refl {a = c.args.keeper.now};
 }
 
-pub returns-in-default-read : goal.returns-in-default-read
-returns-in-default-read g c =
+pub returns-in_default-read : goal.returns-in_default-read
+returns-in_default-read g c =
     let text = c.args.text.now in
     let few = c.if-text-gt-TEXT-LIMIT.false in
     let line = first_line text few c.of-lines.result c.in-Some.names c.next-part.new.self c.of-lines.ensures c.in-Some.ensures in
     record {
-      fed = λ _. unnamed_by text few c.in-Some.names line c.in-default-read.ensures c.at-names-in-default-read.result c.at-names-in-default-read.ensures;
+      fed = λ _. unnamed_by text few c.in-Some.names line c.in_default-read.ensures c.at-names-in_default-read.result c.at-names-in_default-read.ensures;
       sound = λ h. h;
       untouched = λ _. refl {a = c.args.keeper.now};
     }
@@ -57,7 +57,7 @@ loop-line-preserved g c =
       after 10 text 0 (n + 1) s p t c.loop-line.invariant.1 took,
       λ sound.
           let old = c.loop-line.invariant.2 sound in
-          (c.obey.ensures.sound old.0, orderly_more columns text n p old.1 line (c.in-default-obey.ensures.exact old.0 counted placing)),
+          (c.obey.ensures.sound old.0, orderly_more columns text n p old.1 line (c.in_default-obey.ensures.exact old.0 counted placing)),
     )
 
 pub returns-then-is-end : goal.returns-then-is-end
@@ -101,7 +101,7 @@ returns g c =
     let columns = c.in-Some-read.columns in
     let headed = headed_by text few c.of-lines.result c.in-Some.names c.next-part.new.self c.of-lines.ensures c.in-Some.ensures columns c.in-Some-read.ensures in
     let n = c.loop-line.done in
-    let out = none_left 10 text 0 (n + 1) c.loop-line.lines c.loop-line.invariant.1 c.in-default-next-part.ensures.0 in
+    let out = none_left 10 text 0 (n + 1) c.loop-line.lines c.loop-line.invariant.1 c.in_default-next-part.ensures.0 in
     record {
       fed = λ sound. absurd (never_out columns text n headed (c.loop-line.invariant.2 sound).1 out);
       sound = λ sound. (c.loop-line.invariant.2 sound).0;

@@ -10,17 +10,17 @@ returns-then-not-in-form c = λ counted placing. (
   record {
     low = c.loop-place-test.true;
     before = c.loop-place.invariant placing;
-    off = λ h. both_ways _ c.if-not-in-form.true ((c.in_form.ensures placing _ c.in-ok-field.ensures.reads).1 h);
+    off = λ h. both_ways _ c.if-not-in-form.true ((c.in_form.ensures placing _ c.in_ok-field.ensures.reads).1 h);
   },
-  c.new.ensures ∙ ap (λ at. text_flaw at BadField) (c.at.ensures ∙ c.in-ok-field.ensures.start counted),
+  c.new.ensures ∙ ap (λ at. text_flaw at BadField) (c.at.ensures ∙ c.in_ok-field.ensures.start counted),
 )
 
-pub returns-in-err-field : goal.returns-in-err-field
-returns-in-err-field c = λ counted placing. absurd (omega (arith, c.in-err-field.ensures, c.requires))
+pub returns-in_err-field : goal.returns-in_err-field
+returns-in_err-field c = λ counted placing. absurd (omega (arith, c.in_err-field.ensures, c.requires))
 
 pub loop-place-preserved : goal.loop-place-preserved
 loop-place-preserved c = λ placing.
-    below_more _ _ (c.loop-place.invariant placing) ((c.in_form.ensures placing _ c.in-ok-field.ensures.reads).0 c.if-not-in-form.false)
+    below_more _ _ (c.loop-place.invariant placing) ((c.in_form.ensures placing _ c.in_ok-field.ensures.reads).0 c.if-not-in-form.false)
 
 pub returns : goal.returns
 returns c = λ counted placing k low. c.loop-place.invariant placing k (omega arith)

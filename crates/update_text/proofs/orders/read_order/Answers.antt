@@ -15,18 +15,18 @@ returns-then-not-has-fields c = λ counted placing.
     (sym c.new-then-not-has-fields.ensures)
     (uneven c.if-not-line.false (false-eqb _ 4 c.if-not-has-fields.ensures))
 
-pub returns-in-err-act : goal.returns-in-err-act
-returns-in-err-act c =
-    let p = err_from_is_err_and c.from-residual-in-err-act.result c.from-residual-in-err-act.ensures.1 in
+pub returns-in_err-act : goal.returns-in_err-act
+returns-in_err-act c =
+    let p = err_from_is_err_and c.from-residual-in_err-act.result c.from-residual-in_err-act.ensures.1 in
     rw (p.1, p.2) (λ counted placing.
-    unknown_act c.args.columns c.args.line c.in-ok-field-of.field-0 _
+    unknown_act c.args.columns c.args.line c.in_ok-field-of.field-0 _
     (record { fed = c.if-not-line.false; four = true-eqb _ 4 c.if-not-has-fields.ensures })
-    c.in-ok-field-of.ensures counted c.in-err-act.ensures)
+    c.in_ok-field-of.ensures counted c.in_err-act.ensures)
 
-pub returns-in-err-check-forms : goal.returns-in-err-check-forms
-returns-in-err-check-forms c =
-    let p = err_from_is_err_and c.from-residual-in-err-check-forms.result c.from-residual-in-err-check-forms.ensures.1 in
+pub returns-in_err-check-forms : goal.returns-in_err-check-forms
+returns-in_err-check-forms c =
+    let p = err_from_is_err_and c.from-residual-in_err-check-forms.result c.from-residual-in_err-check-forms.ensures.1 in
     rw (p.1, p.2) (λ counted placing.
-    bad_field c.args.columns c.args.line c.in-ok-field-of.field-0 _
+    bad_field c.args.columns c.args.line c.in_ok-field-of.field-0 _
     (record { fed = c.if-not-line.false; four = true-eqb _ 4 c.if-not-has-fields.ensures })
-    c.in-ok-field-of.ensures counted c.in-ok-act.act c.in-ok-act.ensures (c.in-err-check-forms.ensures counted placing))
+    c.in_ok-field-of.ensures counted c.in_ok-act.act c.in_ok-act.ensures (c.in_err-check-forms.ensures counted placing))

@@ -3,8 +3,8 @@ use Rattle.std.proofs.lemmas.Bool.{cond_below, cond_above}
 use Rattle.board.proofs.Answering.{end_told}
 use Rattle.board.proofs.boards.Board.higher_end.Goals as goal
 
-pub returns-in-default : goal.returns-in-default
-returns-in-default g c serves = end_told serves c.args.meter None (c.in-default.ensures serves)
+pub returns-in_default : goal.returns-in_default
+returns-in_default g c serves = end_told serves c.args.meter None (c.in_default.ensures serves)
 
 pub returns-then-meter-other : goal.returns-then-meter-other
 returns-then-meter-other g c serves =

@@ -9,7 +9,7 @@ returns g c =
     let keeper = c.args.self.now.keeper in
     let m = g.K.Reader.meaning keeper in
     let m' = g.K.Reader.meaning c.put.new.self in
-    let h = c.in-ok-put.ensures in
+    let h = c.in_ok-put.ensures in
     let done : Serves (g.K.Reader.sound keeper) m c.args.self.now.kept → Refreshed m m' c.refresh.new.kept c.refresh.result =
     λ s. c.refresh.ensures m c.level.ensures.bound s.copies (h.sound s.keeper)
     (subst (λ (l : ℕ). Changes m l m') (sym c.level.ensures.value) (put_changes m m' c.args.proposal s.lawful (h.exact s.keeper).1))

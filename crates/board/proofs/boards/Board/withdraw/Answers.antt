@@ -12,7 +12,7 @@ returns g c =
     let keeper = c.args.self.now.keeper in
     let m = g.K.Reader.meaning keeper in
     let m' = g.K.Reader.meaning c.take.new.self in
-    let h = c.in-ok-take.ensures in
+    let h = c.in_ok-take.ensures in
     let done : Serves (g.K.Reader.sound keeper) m c.args.self.now.kept → Refreshed m m' c.refresh.new.kept c.refresh.result =
     λ s.
     let t = (h.exact s.keeper).1 in

@@ -8,7 +8,7 @@ returns-in-0 c =
     let shown : None ≡ partner_shown c.args.self.now c.args.meter = search rules in
     record { shown = shown; kept = λ C h. shown ∙ partner_is c.args.self.now C h c.args.meter }
 
-pub returns-in-default : goal.returns-in-default
-returns-in-default c =
+pub returns-in_default : goal.returns-in_default
+returns-in_default c =
     let shown : c.mate.result ≡ partner_shown c.args.self.now c.args.meter = search rules in
     record { shown = shown; kept = λ C h. shown ∙ partner_is c.args.self.now C h c.args.meter }
