@@ -26,7 +26,7 @@ impl<R: Reader> Board<R> {
     /// Opens a board over a keeper, whatever it holds, and keeps what static combining picks from its choice.
     pub fn open(keeper: R) -> Board<R>
         ensures keeper { result.keeper ≡ keeper }
-        ensures serves { sound keeper → Serves (sound result.keeper) (meaning result.keeper) result.kept }
+        ensures serves { R.sound keeper → Serves (R.sound result.keeper) (R.meaning result.keeper) result.kept }
     {
         let mut kept = KeptPairs::new();
         for level in (0..LEVELS).rev() {
@@ -75,8 +75,8 @@ impl<K: Keeper> Board<K> {
 /// Takes over a keeper's choice at a level, and settles the kept pairs. Answers how many kept pairs that altered,
 /// and how many pairs came to the choice or went from it.
 fn refresh<R: Reader>(kept: &mut KeptPairs, reader: &R, level: u32) -> (u32, u32)
-    ensures { (m : Meaning) → level < 20 → Copies kept.old m.chosen → sound reader.now → Changes m level (meaning reader.now)
-        → Refreshed m (meaning reader.now) kept.new result }
+    ensures { (m : Meaning) → level < 20 → Copies kept.old m.chosen → R.sound reader.now → Changes m level (R.meaning reader.now)
+        → Refreshed m (R.meaning reader.now) kept.new result }
 {
     let before = kept.partners();
     let came_or_went = kept.follow(level, &mates_of(reader, level));
@@ -86,7 +86,7 @@ fn refresh<R: Reader>(kept: &mut KeptPairs, reader: &R, level: u32) -> (u32, u32
 
 /// Each meter's mate at a level in a keeper's choice, or its own number.
 fn mates_of<R: Reader>(reader: &R, level: u32) -> [u32; 256]
-    ensures { sound reader.now → (v : ℕ) → v < 256 → slice_index result v ≡ mate_or (meaning reader.now) level v }
+    ensures { R.sound reader.now → (v : ℕ) → v < 256 → slice_index result v ≡ mate_or (R.meaning reader.now) level v }
 {
     let mut row = [0; 256];
     for meter in 0..METERS {

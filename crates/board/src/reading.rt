@@ -27,14 +27,14 @@ fn refuse(reason: Reason) -> Refusal
 impl<R: Reader> Board<R> {
     /// How many meters the group has.
     pub fn size(&self) -> GroupSize
-        ensures { sound self.now.keeper → result.meters ≡ (meaning self.now.keeper).size }
+        ensures { R.sound self.now.keeper → result.meters ≡ (R.meaning self.now.keeper).size }
     {
         self.keeper.size()
     }
 
     /// The other meter and the saving of a meter's kept pair, or none. Refuses a meter outside the group.
     pub fn partner(&self, meter: u32) -> Result<Option<(u32, u32)>, Refusal>
-        ensures { Serves (sound self.now.keeper) (meaning self.now.keeper) self.now.kept → result ≡ partner_of (meaning self.now.keeper) meter }
+        ensures { Serves (R.sound self.now.keeper) (R.meaning self.now.keeper) self.now.kept → result ≡ partner_of (R.meaning self.now.keeper) meter }
     {
         if meter >= self.size().meters() {
             return Err(refuse(Reason::MeterOutsideGroup));
@@ -44,7 +44,7 @@ impl<R: Reader> Board<R> {
 
     /// The other meter and the saving of a meter's kept pair, or none.
     fn kept_pair(&self, meter: u32) -> Option<(u32, u32)>
-        ensures { Serves (sound self.now.keeper) (meaning self.now.keeper) self.now.kept → result ≡ partner_in (kept_of (meaning self.now.keeper)) meter }
+        ensures { Serves (R.sound self.now.keeper) (R.meaning self.now.keeper) self.now.kept → result ≡ partner_in (kept_of (R.meaning self.now.keeper)) meter }
     {
         let Some(other) = self.kept.partner(meter) else {
             return None;
@@ -57,7 +57,7 @@ impl<R: Reader> Board<R> {
 
     /// What the open proposal for two meters saves, if there is one.
     fn saving(&self, a: u32, b: u32) -> Option<u32>
-        ensures { sound self.now.keeper → result ≡ saving_between (meaning self.now.keeper) a b }
+        ensures { R.sound self.now.keeper → result ≡ saving_between (R.meaning self.now.keeper) a b }
     {
         match Pair::new(a, b) {
             Ok(pair) => self.keeper.saving(pair),
@@ -67,7 +67,7 @@ impl<R: Reader> Board<R> {
 
     /// The higher meter and the saving of the kept pair of which the meter is the lower one, if there is one.
     fn higher_end(&self, meter: u32) -> Option<(u32, u32)>
-        ensures { Serves (sound self.now.keeper) (meaning self.now.keeper) self.now.kept → result ≡ end_at (kept_of (meaning self.now.keeper)) meter }
+        ensures { Serves (R.sound self.now.keeper) (R.meaning self.now.keeper) self.now.kept → result ≡ end_at (kept_of (R.meaning self.now.keeper)) meter }
     {
         let Some((other, saving)) = self.kept_pair(meter) else {
             return None;
@@ -81,7 +81,7 @@ impl<R: Reader> Board<R> {
 
     /// What the kept pairs save together.
     pub fn saved(&self) -> u32
-        ensures { Serves (sound self.now.keeper) (meaning self.now.keeper) self.now.kept → (result ≡ total (kept_of (meaning self.now.keeper))) × (result ≤ 134217600) }
+        ensures { Serves (R.sound self.now.keeper) (R.meaning self.now.keeper) self.now.kept → (result ≡ total (kept_of (R.meaning self.now.keeper))) × (result ≤ 134217600) }
     {
         let mut sum = 0u32;
         for meter in 0..METERS {
@@ -95,7 +95,7 @@ impl<R: Reader> Board<R> {
     /// How many pairs are kept.
     fn count(&self) -> u32
         ensures bound { result ≤ 256 }
-        ensures value { Serves (sound self.now.keeper) (meaning self.now.keeper) self.now.kept → result ≡ length (kept_of (meaning self.now.keeper)) }
+        ensures value { Serves (R.sound self.now.keeper) (R.meaning self.now.keeper) self.now.kept → result ≡ length (kept_of (R.meaning self.now.keeper)) }
     {
         let mut count = 0;
         for meter in 0..METERS {
@@ -107,8 +107,8 @@ impl<R: Reader> Board<R> {
     /// Writes lower meter, higher meter and saving of each kept pair into the row, by rising lower meter, and answers how many pairs there are.
     /// Refuses a row with fewer places than that takes. Leaves the rest of the row as it is.
     pub fn list(&self, row: &mut [u32]) -> Result<u32, Refusal>
-        ensures answer { Serves (sound self.now.keeper) (meaning self.now.keeper) self.now.kept → result ≡ count_of (meaning self.now.keeper) (length row.old) }
-        ensures written { Serves (sound self.now.keeper) (meaning self.now.keeper) self.now.kept → row.new ≡ listed_in (meaning self.now.keeper) row.old }
+        ensures answer { Serves (R.sound self.now.keeper) (R.meaning self.now.keeper) self.now.kept → result ≡ count_of (R.meaning self.now.keeper) (length row.old) }
+        ensures written { Serves (R.sound self.now.keeper) (R.meaning self.now.keeper) self.now.kept → row.new ≡ listed_in (R.meaning self.now.keeper) row.old }
         ensures refused { IfErr result (λ e. (e ≡ found RowTooShort) × (row.new ≡ row.old)) }
     {
         let count = self.count();
@@ -121,8 +121,8 @@ impl<R: Reader> Board<R> {
 
     /// Writes the kept pairs into the row, as far as it has places.
     fn write(&self, row: &mut [u32])
-        ensures { Serves (sound self.now.keeper) (meaning self.now.keeper) self.now.kept → 3 * length (kept_of (meaning self.now.keeper)) ≤ length row.old
-            → row.new ≡ listing (kept_of (meaning self.now.keeper)) ++ drop (3 * length (kept_of (meaning self.now.keeper))) row.old }
+        ensures { Serves (R.sound self.now.keeper) (R.meaning self.now.keeper) self.now.kept → 3 * length (kept_of (R.meaning self.now.keeper)) ≤ length row.old
+            → row.new ≡ listing (kept_of (R.meaning self.now.keeper)) ++ drop (3 * length (kept_of (R.meaning self.now.keeper))) row.old }
     {
         let mut at = 0;
         for low in 0..METERS {

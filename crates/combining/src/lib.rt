@@ -13,7 +13,7 @@ const LEVELS: u32 = 20;
 /// Writes each meter's partner, or the meter's own number where it has none, into the first places of a row.
 /// Refuses a row with fewer places than the group has meters. Leaves the rest of the row as it is.
 pub fn combine<R: Reader>(reader: &R, row: &mut [u32]) -> Result<(), Refusal>
-    ensures exact { sound reader.now → Combines (meaning reader.now) row.old result row.new }
+    ensures exact { R.sound reader.now → Combines (R.meaning reader.now) row.old result row.new }
     ensures refused { IfErr result (λ e. (e ≡ short_row) × (row.new ≡ row.old)) }
 {
     let n = reader.size().meters();
@@ -44,7 +44,7 @@ fn free(n: u32, row: &mut [u32])
 /// Keeps each pair that is chosen at a level and whose two meters are still free. A pair is looked at once, at its lower meter.
 fn keep_level<R: Reader>(reader: &R, level: u32, n: u32, row: &mut [u32])
     requires { n ≤ length row.old }
-    ensures kept { sound reader.now → n ≡ (meaning reader.now).size → DownTo (meaning reader.now) (level + 1) row.old → DownTo (meaning reader.now) level row.new }
+    ensures kept { R.sound reader.now → n ≡ (R.meaning reader.now).size → DownTo (R.meaning reader.now) (level + 1) row.old → DownTo (R.meaning reader.now) level row.new }
     ensures rest { drop n row.new ≡ drop n row.old }
 {
     for meter in 0..n {

@@ -35,7 +35,7 @@ orderly : (columns : Columns) (text : List ℕ) (m t : Meaning) (n : ℕ) (event
     (place : ℕ) → place < n → (line : Part) × LineAt text (place + 1) line × Orderly columns line
 orderly columns text m t n events nothing = λ place low. absurd (omega arith)
 orderly columns text m t n events (further {n = k} {events = es} {t = s} d l) =
-    below_more (λ place. (line : Part) × LineAt text (place + 1) line × Orderly columns line) k (orderly columns text m s k es d) (l.line, l.there, (l.order, (l.whole, l.asks)))
+    below_more (λ place. (line : Part) × LineAt text (place + 1) line × Orderly columns line) k (orderly columns text m s k es d) (l.line, l.there, (l.order, l.whole, l.asks))
 
 -- a refusal is of this layer, if there is one
 abbrev OfLayer : Layer → Option Refusal → Type 0

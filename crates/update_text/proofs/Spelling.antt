@@ -119,7 +119,7 @@ module _ (text : List ℕ) (columns : Columns) (n : ℕ) (h : TextInForm text co
   front zero low = ([], refl, tt, take_more (lines_of text) 0 [] (omega (arith, h.end.0)) ∙ ap (λ (l : List ℕ). l ∷ []) names_line)
   front (suc k) low =
       let (wishes, count, writable, is) = front k (omega arith) in
-      let (line, at, (o, (whole, asks))) = h.lines k (omega arith) in
+      let (line, at, (o, whole, asks)) = h.lines k (omega arith) in
       let (bytes, fits) = asked columns line o placed whole asks in
       let more : take (suc k + 1) (lines_of text) ≡ take (k + 1) (lines_of text) ++ get_or (lines_of text) (k + 1) [] ∷ [] =
       ap (λ i. take (i + 1) (lines_of text)) (sym (add-one k)) ∙ take_more (lines_of text) (k + 1) [] (omega (arith, h.end.0))

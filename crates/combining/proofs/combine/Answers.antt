@@ -18,7 +18,7 @@ loop-level-preserved g c =
       cc,
       λ sound.
           let e : l.level ≡ l.level - 1 + 1 = omega arith in
-          c.keep-level.ensures.kept sound (c.meters-n.ensures ∙ c.size.ensures sound) (subst (λ (k : ℕ). DownTo m k l.row) e (l.invariant.1 sound)),
+          c.keep_level.ensures.kept sound (c.meters-n.ensures ∙ c.size.ensures sound) (subst (λ (k : ℕ). DownTo m k l.row) e (l.invariant.1 sound)),
     )
 
 pub returns : goal.returns

@@ -4,11 +4,11 @@ use Rattle.update_text.proofs.Digits.{read_on_more, small}
 use Rattle.update_text.specs.Numbers.{read_on}
 use Rattle.update_text.proofs.fields.number.Goals as goal
 
-pub overflow-mul-n : goal.overflow-mul-n
-overflow-mul-n c = omega (arith, c.loop-b.invariant.1, small c.args.bytes.now c.loop-b.b-index c.loop-b-test.true (omega arith) c.loop-b.invariant.0)
+pub overflow_mul-n : goal.overflow_mul-n
+overflow_mul-n c = omega (arith, c.loop-b.invariant.1, small c.args.bytes.now c.loop-b.b-index c.loop-b-test.true (omega arith) c.loop-b.invariant.0)
 
-pub overflow-add-n : goal.overflow-add-n
-overflow-add-n c = omega (arith, c.loop-b.invariant.1, small c.args.bytes.now c.loop-b.b-index c.loop-b-test.true (omega arith) c.loop-b.invariant.0)
+pub overflow_add-n : goal.overflow_add-n
+overflow_add-n c = omega (arith, c.loop-b.invariant.1, small c.args.bytes.now c.loop-b.b-index c.loop-b-test.true (omega arith) c.loop-b.invariant.0)
 
 pub loop-b-preserved : goal.loop-b-preserved
 loop-b-preserved c = (
@@ -18,7 +18,7 @@ loop-b-preserved c = (
 
 pub returns : goal.returns
 returns c =
-    let some : 0 < length c.args.bytes.now = omega (arith, false-eqb _ 0 c.if-is-empty.ensures) in
+    let some : 0 < length c.args.bytes.now = omega (arith, false-eqb _ 0 c.if-is_empty.ensures) in
     let all : take c.loop-b.b-index c.args.bytes.now ≡ c.args.bytes.now = take_all c.loop-b.b-index c.args.bytes.now (omega arith) in (
       record { some = some; short = omega arith; digits = λ i lt. c.loop-b.invariant.0 i (omega arith); plain = λ zero. omega arith },
       c.loop-b.invariant.1 ∙ ap (read_on 0) all,

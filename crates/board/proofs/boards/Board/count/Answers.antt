@@ -10,10 +10,10 @@ loop-meter-init g c = (omega arith, λ serves. ap length (sym (at_first serves))
 pub loop-meter-preserved : goal.loop-meter-preserved
 loop-meter-preserved g c =
     let l = c.loop-meter in
-    let found = c.higher-end.result in
-    let byte : c.from-count.result ≡ one (is_some found) = c.from-count.ensures ∙ byte_is _ ∙ ap one c.is-some.ensures in (
+    let found = c.higher_end.result in
+    let byte : c.from-count.result ≡ one (is_some found) = c.from-count.ensures ∙ byte_is _ ∙ ap one c.is_some.ensures in (
       omega (arith, one_le (is_some found), l.invariant.0),
-      λ serves. omega (arith, l.invariant.1 serves, count_next serves l.meter found (c.higher-end.ensures serves)),
+      λ serves. omega (arith, l.invariant.1 serves, count_next serves l.meter found (c.higher_end.ensures serves)),
     )
 
 pub returns : goal.returns

@@ -12,8 +12,8 @@ loop-level-preserved g c sound =
     let m = g.R.Reader.meaning c.args.keeper in
     let l = c.loop-level.level - 1 in
     let hl : c.loop-level.level - 1 < 20 = omega arith in
-    let T : ℕ → ℕ = row c.mates-of.result in
-    let is = c.mates-of.ensures sound in
+    let T : ℕ → ℕ = row c.mates_of.result in
+    let is = c.mates_of.ensures sound in
     let inv = c.loop-level.invariant sound in
     let f = c.follow.ensures.follows inv.0 hl (matching m (g.R.Reader.lawful c.args.keeper sound) l T is) in (
       f.sound,

@@ -10,10 +10,10 @@ loop-meter-init g c serves = ap total (sym (at_first serves))
 pub loop-meter-preserved : goal.loop-meter-preserved
 loop-meter-preserved g c serves =
     let l = c.loop-meter in
-    elim c.match-higher-end.branch [
+    elim c.match-higher_end.branch [
       | in-Some w ↦
           let next = one_more serves l.meter _ _ (w.in-Some.ensures serves) in
-          omega (arith, w.sum-is, w.saturating-add-sum.ensures, l.invariant serves, next.sum, sum_bound serves (l.meter + 1))
+          omega (arith, w.sum-is, w.saturating_add-sum.ensures, l.invariant serves, next.sum, sum_bound serves (l.meter + 1))
       | in_default w ↦ w.sum-is ∙ l.invariant serves ∙ ap total (sym (none_more serves l.meter (w.in_default.ensures serves)))
     ]
 

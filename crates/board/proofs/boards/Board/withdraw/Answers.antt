@@ -18,7 +18,7 @@ returns g c =
     let t = (h.exact s.keeper).1 in
     let l : c.level.result ≡ level ratio t.0 =
     c.level.ensures.value
-    ∙ ap (level_of ratio) (c.unwrap-or-saving.ensures ∙ ap (λ o. unwrap_or o 0) (c.saving.ensures s.keeper))
+    ∙ ap (level_of ratio) (c.unwrap_or-saving.ensures ∙ ap (λ o. unwrap_or o 0) (c.saving.ensures s.keeper))
     ∙ taken_level m m' c.args.pair s.lawful t
     in
     c.refresh.ensures m c.level.ensures.bound s.copies (h.sound s.keeper)

@@ -9,13 +9,13 @@ loop-low-init g c = (refl, omega arith, λ serves room. written_first serves c.a
 pub loop-low-preserved : goal.loop-low-preserved
 loop-low-preserved g c =
     let l = c.loop-low in
-    let long = c.match-higher-end.auto.row ∙ l.invariant.0 in
-    elim c.match-higher-end.branch [
+    let long = c.match-higher_end.auto.row ∙ l.invariant.0 in
+    elim c.match-higher_end.branch [
       | in-Some+then-row-at-ge3 w ↦ (
         long,
         omega arith,
         λ serves room.
-            rw (w.row-is, w.at-is, w.write-pair.ensures)
+            rw (w.row-is, w.at-is, w.write_pair.ensures)
             (written_more serves l.low w.in-Some.high w.in-Some.saving l.at c.args.row.now l.row
             (w.in-Some.ensures serves) (l.invariant.2 serves room)),
       )

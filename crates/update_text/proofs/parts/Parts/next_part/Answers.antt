@@ -9,10 +9,10 @@ returns c =
       was = c.if-not-self.false;
       after = after;
       cut = c.split.ensures;
-      start = c.saturating-sub-at.ensures;
+      start = c.saturating_sub-at.ensures;
       mark = refl;
       end = refl;
-      marked = ap not c.is-empty-marked.ensures;
+      marked = ap not c.is_empty-marked.ensures;
       more = refl;
       rest = after_mark after c.min.result c.min.ensures;
     }
