@@ -8,7 +8,7 @@ loop-level-init g c = (
   refl,
   λ sound.
       let n = c.size.ensures sound in
-      begun (g.R.Reader.meaning c.args.reader.now) _ c.free.new.row (omega arith) (λ v lt. c.free.ensures.own_val v (omega arith)),
+      begun (g.R.Reader.meaning c.args.reader.now) _ c.free.new.row (omega arith) (λ v lt. c.free.ensures.own v (omega arith)),
 )
 
 pub loop-level-preserved : goal.loop-level-preserved

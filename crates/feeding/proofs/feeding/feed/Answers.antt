@@ -13,13 +13,13 @@ use Rattle.feeding.specs.declared.feeding.Stop.{Stop}
 use Rattle.feeding.proofs.Following.{fed_lawfully, line_more, never_out}
 use Rattle.feeding.proofs.feeding.feed.Goals as goal
 
-pub returns-then-text-gt-TEXT-LIMIT : goal.returns-then-text-gt-TEXT-LIMIT
-returns-then-text-gt-TEXT-LIMIT g c =
+pub returns-then-text-gt-TEXT_LIMIT : goal.returns-then-text-gt-TEXT_LIMIT
+returns-then-text-gt-TEXT_LIMIT g c =
     let m = g.K.Reader.meaning c.args.board.now.keeper in
     record {
       serves = λ s. s;
-      fed = λ s. fed_lawfully c.args.text.now m (Err c.at-names.result) [] m s.lawful
-          (subst (λ (e : Stop). Fed c.args.text.now m (Err e) [] m) (sym c.at-names.ensures) (long c.if-text-gt-TEXT-LIMIT.true));
+      fed = λ s. fed_lawfully c.args.text.now m (Err c.at_names.result) [] m s.lawful
+          (subst (λ (e : Stop). Fed c.args.text.now m (Err e) [] m) (sym c.at_names.ensures) (long c.if-text-gt-TEXT_LIMIT.true));
       untouched = λ _. refl {a = c.args.board.now};
     }
 
@@ -27,12 +27,12 @@ pub returns-in_default-read : goal.returns-in_default-read
 returns-in_default-read g c =
     let text = c.args.text.now in
     let m = g.K.Reader.meaning c.args.board.now.keeper in
-    let few = c.if-text-gt-TEXT-LIMIT.false in
-    let line = first_line text few c.of-lines.result c.in-Some.names c.next-part.new.self c.of-lines.ensures c.in-Some.ensures in
+    let few = c.if-text-gt-TEXT_LIMIT.false in
+    let line = first_line text few c.of-lines.result c.in-Some.names c.next_part.new.self c.of-lines.ensures c.in-Some.ensures in
     record {
       serves = λ s. s;
-      fed = λ s. fed_lawfully text m (Err c.at-names-in_default-read.result) [] m s.lawful
-          (subst (λ (e : Stop). Fed text m (Err e) [] m) (sym c.at-names-in_default-read.ensures) (unnamed few c.in-Some.names line c.in_default-read.ensures));
+      fed = λ s. fed_lawfully text m (Err c.at_names-in_default-read.result) [] m s.lawful
+          (subst (λ (e : Stop). Fed text m (Err e) [] m) (sym c.at_names-in_default-read.ensures) (unnamed few c.in-Some.names line c.in_default-read.ensures));
       untouched = λ _. refl {a = c.args.board.now};
     }
 
@@ -40,7 +40,7 @@ pub loop-line-init : goal.loop-line-init
 loop-line-init g c =
     let text = c.args.text.now in
     let s = c.of-lines.result in
-    let t = c.next-part.new.self in
+    let t = c.next_part.new.self in
     let took = c.in-Some.ensures in (
       omega (arith, part_left s c.in-Some.names t took, ap length c.of-lines.ensures.rest),
       after 10 text 0 0 s c.in-Some.names t (before_first 10 text 0 s c.of-lines.ensures) took,
@@ -48,40 +48,40 @@ loop-line-init g c =
     )
 
 pub loop-line-smaller : goal.loop-line-smaller
-loop-line-smaller g c = part_falls _ _ _ c.in-Some-next-part.ensures c.if-is-end.ensures
+loop-line-smaller g c = part_falls _ _ _ c.in-Some-next_part.ensures c.if-is_end.ensures
 
 pub loop-line-preserved : goal.loop-line-preserved
 loop-line-preserved g c =
     let text = c.args.text.now in
-    let few = c.if-text-gt-TEXT-LIMIT.false in
+    let few = c.if-text-gt-TEXT_LIMIT.false in
     let columns = c.in-Some-read.columns in
     let n = c.loop-line.done in
     let s = c.loop-line.lines in
-    let p = c.in-Some-next-part.line in
-    let t = c.next-part-in-loop-line.new.self in
-    let took = c.in-Some-next-part.ensures in
+    let p = c.in-Some-next_part.line in
+    let t = c.next_part-in-loop-line.new.self in
+    let took = c.in-Some-next_part.ensures in
     let line = line_at text few (n + 1) s p t c.loop-line.invariant.1 took in
     let counted = line_counted text few (n + 1) s p t c.loop-line.invariant.1 took in
     let placing = named_placing (fields_of c.in-Some.names) columns c.in-Some-read.ensures.named in (
-      omega (arith, c.loop-line.invariant.0, part_falls s p t took c.if-is-end.ensures),
+      omega (arith, c.loop-line.invariant.0, part_falls s p t took c.if-is_end.ensures),
       after 10 text 0 (n + 1) s p t c.loop-line.invariant.1 took,
       λ serves.
           let old = c.loop-line.invariant.2 serves in (
-            c.obey-line.ensures.serves old.0,
-            line_more columns text _ _ _ n old.1.0 p old.1.1 line (c.in_default-obey-line.ensures.exact old.0 counted placing),
+            c.obey_line.ensures.serves old.0,
+            line_more columns text _ _ _ n old.1.0 p old.1.1 line (c.in_default-obey_line.ensures.exact old.0 counted placing),
           ),
     )
 
-pub returns-then-is-end : goal.returns-then-is-end
-returns-then-is-end g c =
+pub returns-then-is_end : goal.returns-then-is_end
+returns-then-is_end g c =
     let text = c.args.text.now in
     let m = g.K.Reader.meaning c.args.board.now.keeper in
-    let few = c.if-text-gt-TEXT-LIMIT.false in
+    let few = c.if-text-gt-TEXT_LIMIT.false in
     let columns = c.in-Some-read.columns in
-    let headed = headed_by text few c.of-lines.result c.in-Some.names c.next-part.new.self c.of-lines.ensures c.in-Some.ensures columns c.in-Some-read.ensures in
+    let headed = headed_by text few c.of-lines.result c.in-Some.names c.next_part.new.self c.of-lines.ensures c.in-Some.ensures columns c.in-Some-read.ensures in
     let n = c.loop-line.done in
-    let line = line_at text few (n + 1) c.loop-line.lines c.in-Some-next-part.line c.next-part-in-loop-line.new.self c.loop-line.invariant.1 c.in-Some-next-part.ensures in
-    let end = at_end text (n + 1) c.in-Some-next-part.line c.is-end.result line c.is-end.ensures c.if-is-end.true in
+    let line = line_at text few (n + 1) c.loop-line.lines c.in-Some-next_part.line c.next_part-in-loop-line.new.self c.loop-line.invariant.1 c.in-Some-next_part.ensures in
+    let end = at_end text (n + 1) c.in-Some-next_part.line c.is_end.result line c.is_end.ensures c.if-is_end.true in
     record {
       serves = λ s. (c.loop-line.invariant.2 s).0;
       fed = λ s.
@@ -94,35 +94,35 @@ pub returns-in-Err : goal.returns-in-Err
 returns-in-Err g c =
     let text = c.args.text.now in
     let m = g.K.Reader.meaning c.args.board.now.keeper in
-    let few = c.if-text-gt-TEXT-LIMIT.false in
+    let few = c.if-text-gt-TEXT_LIMIT.false in
     let columns = c.in-Some-read.columns in
-    let headed = headed_by text few c.of-lines.result c.in-Some.names c.next-part.new.self c.of-lines.ensures c.in-Some.ensures columns c.in-Some-read.ensures in
+    let headed = headed_by text few c.of-lines.result c.in-Some.names c.next_part.new.self c.of-lines.ensures c.in-Some.ensures columns c.in-Some-read.ensures in
     let n = c.loop-line.done in
-    let took = c.in-Some-next-part.ensures in
-    let p = c.in-Some-next-part.line in
-    let line = line_at text few (n + 1) c.loop-line.lines p c.next-part-in-loop-line.new.self c.loop-line.invariant.1 took in
-    let counted = line_counted text few (n + 1) c.loop-line.lines p c.next-part-in-loop-line.new.self c.loop-line.invariant.1 took in
+    let took = c.in-Some-next_part.ensures in
+    let p = c.in-Some-next_part.line in
+    let line = line_at text few (n + 1) c.loop-line.lines p c.next_part-in-loop-line.new.self c.loop-line.invariant.1 took in
+    let counted = line_counted text few (n + 1) c.loop-line.lines p c.next_part-in-loop-line.new.self c.loop-line.invariant.1 took in
     let placing = named_placing (fields_of c.in-Some.names) columns c.in-Some-read.ensures.named in
     record {
-      serves = λ s. c.obey-line.ensures.serves (c.loop-line.invariant.2 s).0;
+      serves = λ s. c.obey_line.ensures.serves (c.loop-line.invariant.2 s).0;
       fed = λ s.
           let old = c.loop-line.invariant.2 s in
           let stop = c.in-Err.ensures.exact old.0 counted placing in
           let r = Err (stop_after n c.in-Err.flaw) in
-          fed_lawfully text m r old.1.0 (g.K.Reader.meaning c.obey-line.new.board.keeper) s.lawful
-          (subst (λ (t : Meaning). Fed text m r old.1.0 t) (sym stop.1) (stopped few columns headed old.1.1 (not_at_end text (n + 1) p line c.if-is-end.ensures) p line stop.0));
-      untouched = λ e. absurd {A = c.obey-line.new.board ≡ c.args.board.now} (omega arith);
+          fed_lawfully text m r old.1.0 (g.K.Reader.meaning c.obey_line.new.board.keeper) s.lawful
+          (subst (λ (t : Meaning). Fed text m r old.1.0 t) (sym stop.1) (stopped few columns headed old.1.1 (not_at_end text (n + 1) p line c.if-is_end.ensures) p line stop.0));
+      untouched = λ e. absurd {A = c.obey_line.new.board ≡ c.args.board.now} (omega arith);
     }
 
 pub returns : goal.returns
 returns g c =
     let text = c.args.text.now in
     let m = g.K.Reader.meaning c.args.board.now.keeper in
-    let few = c.if-text-gt-TEXT-LIMIT.false in
+    let few = c.if-text-gt-TEXT_LIMIT.false in
     let columns = c.in-Some-read.columns in
-    let headed = headed_by text few c.of-lines.result c.in-Some.names c.next-part.new.self c.of-lines.ensures c.in-Some.ensures columns c.in-Some-read.ensures in
+    let headed = headed_by text few c.of-lines.result c.in-Some.names c.next_part.new.self c.of-lines.ensures c.in-Some.ensures columns c.in-Some-read.ensures in
     let n = c.loop-line.done in
-    let out = none_left 10 text 0 (n + 1) c.loop-line.lines c.loop-line.invariant.1 c.in_default-next-part.ensures.0 in
+    let out = none_left 10 text 0 (n + 1) c.loop-line.lines c.loop-line.invariant.1 c.in_default-next_part.ensures.0 in
     record {
       serves = λ s. (c.loop-line.invariant.2 s).0;
       fed = λ s. let old = (c.loop-line.invariant.2 s).1 in absurd (never_out columns text m (g.K.Reader.meaning c.loop-line.board.keeper) n old.0 headed old.1 out);

@@ -11,7 +11,7 @@ returns-in-Err g c =
     record {
       serves = c.obey.ensures.serves;
       exact = λ s counted placing.
-          line_stopped c.args.columns c.args.line _ _ o e c.flaw-of.result (c.in_ok-order.ensures counted placing) (c.in-Err.ensures.exact s)
-          (λ same. c.flaw-of.ensures
+          line_stopped c.args.columns c.args.line _ _ o e c.flaw_of.result (c.in_ok-order.ensures counted placing) (c.in-Err.ensures.exact s)
+          (λ same. c.flaw_of.ensures
           ∙ ap (λ n. flaw_of n c.args.line.at o e) (c.meters.ensures ∙ c.size.ensures (c.obey.ensures.serves s).keeper ∙ ap (λ (x : Meaning). x.size) same));
     }
