@@ -4,5 +4,5 @@ use Rattle.listing.proofs.write_pairs.Goals as goal
 
 pub loop-left-preserved : goal.loop-left-preserved
 loop-left-preserved c =
-    line_more (string_bytes c.loop-left.out) (string_bytes c.write-pair.new.out) _ c.loop-left.left.now (omega (arith, ltb-false))
-    c.in_ok-write-pair.ensures c.loop-left.invariant
+    line_more (string_bytes c.loop-left.out) (string_bytes c.write_pair.new.out) _ c.loop-left.left.now (omega (arith, ltb-false))
+    c.in_ok-write_pair.ensures c.loop-left.invariant
