@@ -1,12 +1,12 @@
 -- What an accepted put or take changes, and that a board with a fresh copy serves.
-use Rattle.std.proofs.Common.{◌≡◌, ℕ, true, not, eqb, List, Some, None, Ok, unwrap_or, sym, refl, ap, ◌∙◌, subst, inr}
+use Rattle.std.proofs.Common.{◌≡◌, ℕ, not, eqb, List, None, Ok, unwrap_or, sym, ap, ◌∙◌, subst, inr}
 use Rattle.std.proofs.lemmas.Bool.{eq-eqb, and_from}
 use Rattle.proposals.specs.declared.proposals.Proposal.{Proposal}
 use Rattle.proposals.specs.declared.pairs.Pair.{Pair}
 use Rattle.proposals.specs.Levels.{level_of}
 use Rattle.matching.specs.Lists.{◌∈◌}
 use Rattle.matching.specs.Matching.{level}
-use Rattle.matching.specs.Canonical.{Ascending, insert, joins, without}
+use Rattle.matching.specs.Canonical.{Ascending, joins}
 use Rattle.matching.specs.Meanings.{Meaning, Lawful, ratio, saving_of, put_refusal, take_refusal, Put, Take}
 use Rattle.matching.proofs.Lists.{kept_by_in}
 use Rattle.matching.proofs.Order.{joins_self, joins_true, one_open, in_insert}

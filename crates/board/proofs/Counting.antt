@@ -1,15 +1,15 @@
 -- The two counts of a call: of the kept pairs and of the choice, between the moments before and after.
-use Rattle.std.proofs.Common.{◌≡◌, ℕ, ◌<◌, Bool, true, false, not, eqb, ◌≢◌, List, ◌++◌, length, Some, None, filter, Option, unwrap_or, sym, refl, ap, ◌∙◌, inl, inr, arith, length-append}
+use Rattle.std.proofs.Common.{◌≡◌, ℕ, ◌<◌, true, false, not, eqb, List, ◌++◌, length, Some, None, filter, Option, unwrap_or, sym, refl, ap, ◌∙◌, inl, inr, arith}
 use Rattle.std.specs.Option.{option_map}
 use Rattle.std.proofs.lemmas.Bool.{cases_Bool, cases_eq, eqb-true, eq-eqb, not-true}
 use Rattle.proposals.specs.declared.proposals.Proposal.{Proposal}
 use Rattle.matching.specs.Lists.{◌∈◌, Pairwise, first_of}
-use Rattle.matching.specs.Matching.{level, has, other, shares, is_in, Pairing, Choice, kept, altered}
-use Rattle.matching.specs.Canonical.{Ascending, partner_in}
+use Rattle.matching.specs.Matching.{level, has, other, shares, is_in, kept, altered}
+use Rattle.matching.specs.Canonical.{partner_in}
 use Rattle.matching.specs.Meanings.{Meaning, ratio, kept_of}
 use Rattle.matching.specs.Keeping.{pairs_at_level}
-use Rattle.matching.proofs.Lists.{none_some, first_in, kept_by_in, in_kept_by, kept_by_same, kept_by_twice, pairwise_kept_by, pairwise_weaker}
-use Rattle.matching.proofs.Pairs.{has_cases, other_low, other_high, is_in_lem, in_is, not_in, isnt_in}
+use Rattle.matching.proofs.Lists.{first_in, kept_by_in, in_kept_by, kept_by_same, kept_by_twice, pairwise_kept_by, pairwise_weaker}
+use Rattle.matching.proofs.Pairs.{has_cases, other_high, is_in_lem, in_is, not_in, isnt_in}
 use Rattle.matching.proofs.Kept.{combining}
 use Rattle.matching.proofs.Order.{kept_ascends, picked_ascends}
 use Rattle.runs.proofs.Meters.{rising}

@@ -1,12 +1,12 @@
 -- Each call of a board as a step of a run, and a run that grows by a call.
-use Rattle.std.proofs.Common.{◌≡◌, ℕ, zero, suc, ◌+◌, ◌*◌, ◌<◌, ◌≤◌, min, Bool, true, false, ltb, leb, List, [], ◌∷◌, ◌++◌, length, get_or, take, drop, set, Some, None, Ok, Err, Option, Result, sym, refl, ap, ◌∙◌, subst, inl, inr, append_assoc, arith, length-append}
+use Rattle.std.proofs.Common.{◌≡◌, ℕ, zero, suc, ◌+◌, ◌*◌, ◌<◌, ◌≤◌, min, leb, List, [], ◌∷◌, ◌++◌, length, get_or, take, drop, set, Some, None, Ok, Err, Option, Result, sym, refl, ap, ◌∙◌, subst, inl, inr, append_assoc, arith}
 use Rattle.std.proofs.lemmas.List.{take_more, take_more_set, take-append-le, take_all, length-take-le}
 use Rattle.std.proofs.lemmas.Bool.{cases_Bool, cond-true, cond-false, ltb-true, ltb-false, lt-ltb, le-ltb}
 use Rattle.proposals.specs.declared.proposals.Proposal.{Proposal}
 use Rattle.proposals.specs.declared.pairs.Pair.{Pair}
 use Rattle.proposals.specs.declared.refusals.Refusal.{Refusal}
 use Rattle.proposals.specs.declared.refusals.Reason.TheVariants.{MeterOutsideGroup, RowTooShort}
-use Rattle.matching.specs.Matching.{total, altered}
+use Rattle.matching.specs.Matching.{total}
 use Rattle.matching.specs.Canonical as canonical
 use Rattle.matching.specs.Meanings.{Meaning, Lawful, kept_of}
 use Rattle.runs.specs.Runs as runs

@@ -1,5 +1,6 @@
 //! The board: it holds a keeper and keeps, call by call, the pairs that static combining picks from the keeper's choice.
 #![tactic(auto)]
+
 mod boards;
 mod reading;
 mod replaying;

@@ -1,5 +1,6 @@
 //! Static combining: from the highest level down, every chosen pair whose meters are in no pair of a higher level is kept.
 #![tactic(auto)]
+
 ghost use Rattle.std.specs.Prelude.{◌≡◌, ℕ, ◌+◌, ◌<◌, ◌≤◌, length, drop, IfErr, slice_index};
 ghost use Rattle.combining.specs.Partners.{short_row, Combines};
 ghost use Rattle.combining.specs.Steps.{DownTo, with_pair};

@@ -1,5 +1,6 @@
 //! The board for a program in C: a few functions on numbers and byte slices. The header is embed/cupboarddove.h.
 #![tactic(auto)]
+
 ghost use Rattle.std.specs.Prelude.{◌≡◌, length};
 ghost use Rattle.proposals.specs.Levels.{level_of};
 ghost use Rattle.embed.specs.Embedding.{Reported, placed};

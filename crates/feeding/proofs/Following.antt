@@ -12,7 +12,7 @@ use Rattle.update_text.specs.declared.parts.Part.{Part}
 use Rattle.update_text.proofs.Following.{not_last}
 use Rattle.feeding.specs.Obeying.{Obeys}
 use Rattle.feeding.specs.Obeying.Obeys.{obeyed}
-use Rattle.feeding.specs.Texts.{Done, Fed, Feeding, LineDone}
+use Rattle.feeding.specs.Texts.{Done, Fed, Feeding}
 use Rattle.feeding.specs.Texts.Done.{nothing, further}
 use Rattle.feeding.specs.declared.feeding.Stop.{Stop}
 

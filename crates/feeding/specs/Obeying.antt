@@ -1,6 +1,5 @@
 -- What a line's order asks of a board, and what comes of it.
 use Rattle.std.specs.Prelude.{◌≡◌, ℕ, true, cond, Some, Ok, Err, Option, Result, ◌==◌, nat_le}
-use Rattle.proposals.specs.declared.refusals.Reason.{Reason}
 use Rattle.proposals.specs.declared.refusals.Refusal.{Refusal}
 use Rattle.proposals.specs.Making.{Pairs, Proposes, pair_refusal, proposal_refusal}
 use Rattle.proposals.specs.Refusals.{number_of}

@@ -1,5 +1,6 @@
 //! Feeds an update text to a board: each line's call in turn, up to the first refusal.
 #![tactic(auto)]
+
 mod feeding;
 mod laws;
 

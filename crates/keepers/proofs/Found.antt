@@ -5,7 +5,7 @@ use Rattle.proposals.specs.declared.pairs.Pair.{Pair}
 use Rattle.proposals.specs.declared.proposals.Proposal.{Proposal}
 use Rattle.matching.specs.Lists.{first_of}
 use Rattle.matching.specs.Canonical.{Ascending, joins}
-use Rattle.keepers.specs.Tables.{filler, at, Stands, Gap}
+use Rattle.keepers.specs.Tables.{filler, Stands, Gap}
 use Rattle.keepers.proofs.Places.{read_is}
 use Rattle.keepers.proofs.Edits.{first_at, first_none, gap_for}
 

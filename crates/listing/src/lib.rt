@@ -1,5 +1,6 @@
 //! The text that `pairs` prints: the kept pairs that an update text leads to, and where the text was stopped at.
 #![tactic(auto)]
+
 ghost use Rattle.std.specs.Prelude.{◌≡◌, min, ◌++◌, length, IfOk, Err, string_bytes, OnOk};
 ghost use Rattle.listing.specs.Report.{Reports, heading, numbers_text, pair_line, stop_text};
 

@@ -1,6 +1,7 @@
 //! The mathematics of static combining, over plain lists of proposals.
 //! Each function stands for a theorem: its contract is the statement, and the check asks for the proof.
 #![tactic(auto)]
+
 ghost use Rattle.matching.specs.Figures.{Figures};
 ghost use Rattle.matching.specs.Keeping.{BareLawful, FirstCome, FirstIsNearest, LevelByLevel, OrderedKeeps, PatientIsPatient, PatientKeeps, Telling};
 ghost use Rattle.matching.specs.Theorems.{Alteration, Combining, LevelByPowers, OneAnswerToEach, Share, ShareOfTwo, StoredAnyhow};

@@ -1,5 +1,6 @@
 //! Reads an update text from standard input, and prints the pairs that are kept at its end.
 #![tactic(auto)]
+
 use listing::report;
 use std::io::Read;
 

@@ -1,5 +1,6 @@
 //! The terms of a pairing board: a group's size, a proposal, a pair, a saving's level, and why a call refuses.
 #![tactic(auto)]
+
 mod levels;
 mod pairing;
 mod pairs;

@@ -1,6 +1,7 @@
 //! Runs of calls on a pairing board, over the meaning of its keeper alone: nothing here speaks of a board's code.
 //! Each function stands for a theorem: its contract is the statement, and the check asks for the proof.
 #![tactic(auto)]
+
 ghost use Rattle.runs.specs.Answering.{Accepting, Reading, Refusing};
 ghost use Rattle.runs.specs.Example.{Example};
 ghost use Rattle.runs.specs.Law.{Law, LawOfCalls};

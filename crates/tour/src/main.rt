@@ -1,5 +1,6 @@
 //! Works through a morning of one group of meters, and tells what happens in a planner's words.
 #![tactic(auto)]
+
 mod story;
 
 use combining::combine;

@@ -1,5 +1,6 @@
 //! Tests that are many, and a keeper as a buyer might write one.
 #![tactic(auto)]
+
 #[cfg(test)]
 mod figures;
 mod lone;

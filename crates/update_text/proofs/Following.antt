@@ -1,5 +1,5 @@
 -- The lines of a text, followed one after another.
-use Rattle.std.proofs.Common.{◌≡◌, ℕ, zero, suc, ◌+◌, ◌≤◌, Bool, true, false, not, eqb, List, [], ◌∷◌, length, get_or, Err, sym, refl, ap, ◌∙◌, subst, arith, below_more}
+use Rattle.std.proofs.Common.{◌≡◌, ℕ, zero, suc, ◌+◌, ◌≤◌, Bool, true, false, not, eqb, List, [], ◌∷◌, length, Err, sym, refl, ap, ◌∙◌, subst, arith, below_more}
 use Rattle.std.proofs.lemmas.Bool.{and_from, and_parts, both_ways, eq-eqb, eqb-true, le-ltb, ltb-false, ltb-true, not-true}
 use Rattle.proposals.specs.declared.refusals.Reason.TheVariants.{BadNamesLine}
 use Rattle.update_text.specs.Cuts.{cut}

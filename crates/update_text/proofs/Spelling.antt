@@ -1,30 +1,27 @@
 -- A text in form is a list of wishes that was written out, and such a text reads back as the list.
-use Rattle.std.proofs.Common.{◌≡◌, ℕ, zero, suc, ◌+◌, ◌^◌, ◌<◌, cond, eqb, ◌⊎◌, List, [], ◌∷◌, ◌++◌, map, length, get_or, take, codes, decimal, Result, sym, refl, ap, ◌∙◌, subst, inl, inr, add-one, arith, MatchResult}
+use Rattle.std.proofs.Common.{◌≡◌, ℕ, zero, suc, ◌+◌, ◌^◌, ◌<◌, cond, eqb, List, [], ◌∷◌, ◌++◌, map, length, get_or, take, decimal, sym, refl, ap, ◌∙◌, inl, inr, add-one, arith}
 use Rattle.std.specs.List.{AllByRecursion as All}
 use Rattle.std.proofs.lemmas.Fmt as decimals
 use Rattle.std.proofs.lemmas.List.{length_push, take_all, take_more}
 use Rattle.std.proofs.lemmas.Str.Parse.{digits_value_short}
-use Rattle.std.proofs.lemmas.Bool.{cases_eq, cases_lt, cond-false, cond-true, eq-eqb, lt-ltb, ne_eqb}
-use Rattle.update_text.specs.Cuts.{Free, cut, joined}
-use Rattle.update_text.specs.Fields.{hyphen}
+use Rattle.std.proofs.lemmas.Bool.{cases_eq, cond-false, cond-true, eq-eqb, lt-ltb, ne_eqb}
+use Rattle.update_text.specs.Cuts.{Free, joined}
 use Rattle.update_text.specs.Lines.{field_of, fields_of}
-use Rattle.update_text.specs.Names.{NamesLine, Placing}
+use Rattle.update_text.specs.Names.{Placing}
 use Rattle.update_text.specs.Numbers.{IsNumber, read_on}
-use Rattle.update_text.specs.Orders.{Answered, Asks, EntryAt, Whole, act_word}
-use Rattle.update_text.specs.Texts.{Headed, LineAt, lines_of}
-use Rattle.update_text.specs.Writing.{TextInForm, ReadsAs, Wish, Writable, Writes, WrittenAndRead, WrittenFrom, in_column, lines_out, names_row, row, wish_of, wish_row, written}
-use Rattle.update_text.specs.Writing.Wish.{opens, closes}
+use Rattle.update_text.specs.Orders.{Asks, EntryAt, Whole}
+use Rattle.update_text.specs.Texts.{lines_of}
+use Rattle.update_text.specs.Writing.{TextInForm, ReadsAs, Wish, Writable, WrittenAndRead, WrittenFrom, in_column, lines_out, names_row, row, wish_of, wish_row, written}
+use Rattle.update_text.specs.Writing.Wish.{closes}
 use Rattle.update_text.specs.declared.columns.Columns.{Columns}
-use Rattle.update_text.specs.declared.orders.Act.TheVariants.{Add, Off}
 use Rattle.update_text.specs.declared.orders.Entry.{Entry}
-use Rattle.update_text.specs.declared.orders.Flaw.{Flaw}
 use Rattle.update_text.specs.declared.orders.Order.{Order}
 use Rattle.update_text.specs.declared.orders.Order.TheVariants as order
 use Rattle.update_text.specs.declared.parts.Part.{Part}
 use Rattle.update_text.proofs.Digits.{plain_digits}
 use Rattle.update_text.proofs.Joining.{cuts_and_joins, cut_joined}
 use Rattle.update_text.proofs.Naming.{named_placing}
-use Rattle.update_text.proofs.Writing.{Mark, names_free, reads_back, wish_free}
+use Rattle.update_text.proofs.Writing.{names_free, reads_back, wish_free}
 
 -- four fields, each in its column, are the row of the columns
 module _ (columns : Columns) (act a b saving : List ℕ) (placing : Placing columns) where

@@ -1,5 +1,6 @@
 //! The update text: lines of fields that open and close proposals, read byte by byte and fed to a keeper.
 #![tactic(auto)]
+
 mod columns;
 mod feeding;
 mod fields;

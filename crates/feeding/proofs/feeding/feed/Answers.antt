@@ -1,5 +1,4 @@
 use Rattle.std.proofs.Common.{◌≡◌, ◌+◌, [], length, Ok, Err, sym, refl, ap, subst, arith}
-use Rattle.board.specs.Serving.{Serves}
 use Rattle.update_text.specs.Lines.{fields_of}
 use Rattle.update_text.proofs.Cutting.{part_falls, part_left}
 use Rattle.update_text.proofs.Following.{at_end, first_line, headed_by, line_at, line_counted, not_at_end}
