@@ -1,6 +1,6 @@
 -- What is fed to its end was written out, and what was written out is not at fault by itself.
 use Rattle.std.proofs.Common.{◌≡◌, ℕ, ◌+◌, ◌<◌, ◌≤◌, ◌||◌, eqb, ltb, leb, List, length, Some, None, Ok, Err, Option, Result, sym, refl, ap, ◌∙◌, subst, inl, inr, ⊎_elim, arith, below_more, MatchResult}
-use Rattle.std.specs.List.{AllByRecursion as All}
+use Rattle.std.specs.List.{AllByRecursion}
 use Rattle.std.proofs.lemmas.Bool.{cases_lt, cond_both}
 use Rattle.proposals.specs.declared.refusals.Layer.{Layer}
 use Rattle.proposals.specs.declared.refusals.Layer.TheVariants as layer
@@ -90,7 +90,7 @@ done_was_written : (text : List ℕ) (m t : Meaning) (n : ℕ) (events : List Ev
 done_was_written text m t n events (finished few columns headed d end) =
     (columns, written_and_read.1 text columns n record { headed = headed; lines = orderly columns text m t n events d; end = end })
 
-module _ (columns : Columns) (wishes : List Wish) (placing : Placing columns) (writable : All Writable wishes) where
+module _ (columns : Columns) (wishes : List Wish) (placing : Placing columns) (writable : AllByRecursion Writable wishes) where
   reads : ReadsAs (written columns wishes) columns wishes
   reads = written_and_read.0 columns wishes placing writable
 

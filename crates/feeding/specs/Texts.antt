@@ -1,6 +1,6 @@
 -- What feeding a text to a board answers and does.
 use Rattle.std.specs.Prelude.{◌≡◌, ℕ, ◌+◌, ◌<◌, ◌≤◌, true, ◌⊎◌, List, [], ◌∷◌, ◌++◌, length, Ok, Err, Result, MatchResult, ◌≢◌}
-use Rattle.std.specs.List.{AllByRecursion as All}
+use Rattle.std.specs.List.{AllByRecursion}
 use Rattle.proposals.specs.declared.refusals.Layer.TheVariants as layer
 use Rattle.proposals.specs.declared.refusals.Reason.{Reason}
 use Rattle.proposals.specs.declared.refusals.Reason.TheVariants.{TextTooLong, BadNamesLine}
@@ -80,6 +80,6 @@ ObeyedLine columns line m r m' =
 -- and what was written out, and is not too long, is fed to its end, or stopped by a refusal of another layer than the text
 pub record FedAsWritten : Type 0 where
   pub done : (text : List ℕ) (m t : Meaning) (n : ℕ) (events : List Event) → Fed text m (Ok n) events t → (columns : Columns) × WrittenFrom text columns n
-  pub read : (columns : Columns) (wishes : List Wish) (m t : Meaning) (r : Result ℕ Stop) (events : List Event) → Placing columns → All Writable wishes →
+  pub read : (columns : Columns) (wishes : List Wish) (m t : Meaning) (r : Result ℕ Stop) (events : List Event) → Placing columns → AllByRecursion Writable wishes →
       length (written columns wishes) ≤ 32768 → Fed (written columns wishes) m r events t →
       MatchResult r (λ n. n ≡ length wishes) (λ s. s.refusal.layer ≢ layer.Text)

@@ -1,6 +1,6 @@
 -- Cutting a list of bytes into parts, and joining parts.
 use Rattle.std.proofs.Common.{◌≡◌, ℕ, zero, suc, ◌<◌, true, false, cond, eqb, List, [], ◌∷◌, ◌++◌, length, refl, ap, ◌∙◌, arith}
-use Rattle.std.specs.List.{AllByRecursion as All}
+use Rattle.std.specs.List.{AllByRecursion}
 use Rattle.std.proofs.lemmas.Bool.{cond_both, cond-false, cond-true, eq-eqb, eqb-false, eqb-true, ne_eqb}
 use Rattle.update_text.specs.Cuts.{CutsAndJoins, Free, cut, joined, widened}
 
@@ -26,7 +26,7 @@ cut_some mark [] = omega arith
 cut_some mark (c ∷ cs) =
     elim (eqb c mark) as (λ b. 0 < length (cond b ([] ∷ cut mark cs) (widened c (cut mark cs)))) [ true ↦ omega arith | false ↦ widened_some c (cut mark cs) ]
 
-pub cut_joined : (mark : ℕ) (ps : List (List ℕ)) → 0 < length ps → All (Free mark) ps → cut mark (joined mark ps) ≡ ps
+pub cut_joined : (mark : ℕ) (ps : List (List ℕ)) → 0 < length ps → AllByRecursion (Free mark) ps → cut mark (joined mark ps) ≡ ps
 cut_joined mark [] some free = absurd (omega arith)
 cut_joined mark (p ∷ []) some free = cut_free mark p free.0
 cut_joined mark (p ∷ q ∷ ps) some free =
@@ -55,15 +55,15 @@ free_more : (mark c : ℕ) (p : List ℕ) → (c ≡ mark → ⊥) → Free mark
 free_more mark c p other free zero lt is = other is
 free_more mark c p other free (suc i) lt is = free i (omega arith) is
 
-widened_free : (mark c : ℕ) (ps : List (List ℕ)) → (c ≡ mark → ⊥) → All (Free mark) ps → All (Free mark) (widened c ps)
+widened_free : (mark c : ℕ) (ps : List (List ℕ)) → (c ≡ mark → ⊥) → AllByRecursion (Free mark) ps → AllByRecursion (Free mark) (widened c ps)
 widened_free mark c [] other free = (free_more mark c [] other (λ i lt is. absurd (omega arith)), tt)
 widened_free mark c (p ∷ ps) other free = (free_more mark c p other free.0, free.1)
 
-free_cut : (mark : ℕ) (bytes : List ℕ) → All (Free mark) (cut mark bytes)
+free_cut : (mark : ℕ) (bytes : List ℕ) → AllByRecursion (Free mark) (cut mark bytes)
 unfolding cut
 free_cut mark [] = (λ i lt is. absurd (omega arith), tt)
 free_cut mark (c ∷ cs) =
-    cond_both (eqb c mark) ([] ∷ cut mark cs) (widened c (cut mark cs)) (All (Free mark))
+    cond_both (eqb c mark) ([] ∷ cut mark cs) (widened c (cut mark cs)) (AllByRecursion (Free mark))
     (λ e. (λ i lt is. absurd (omega arith), free_cut mark cs))
     (λ e. widened_free mark c (cut mark cs) (eqb-false c mark e) (free_cut mark cs))
 

@@ -1,6 +1,6 @@
 -- A text in form is a list of wishes that was written out, and such a text reads back as the list.
 use Rattle.std.proofs.Common.{◌≡◌, ℕ, zero, suc, ◌+◌, ◌^◌, ◌<◌, cond, eqb, List, [], ◌∷◌, ◌++◌, map, length, get_or, take, decimal, sym, refl, ap, ◌∙◌, inl, inr, add-one, arith}
-use Rattle.std.specs.List.{AllByRecursion as All}
+use Rattle.std.specs.List.{AllByRecursion}
 use Rattle.std.proofs.lemmas.Fmt as decimals
 use Rattle.std.proofs.lemmas.List.{length_push, take_all, take_more}
 use Rattle.std.proofs.lemmas.Str.Parse.{digits_value_short}
@@ -97,7 +97,7 @@ lines_more columns wishes wish = ap (λ (ls : List (List ℕ)). joined 59 (names
     pushed [] = refl
     pushed (w ∷ ws) = ap (λ (ls : List (List ℕ)). joined 59 (wish_row columns w) ∷ ls) (pushed ws)
 
-all_push : (wishes : List Wish) (wish : Wish) → All Writable wishes → Writable wish → All Writable (wishes ++ wish ∷ [])
+all_push : (wishes : List Wish) (wish : Wish) → AllByRecursion Writable wishes → Writable wish → AllByRecursion Writable (wishes ++ wish ∷ [])
 all_push [] wish h w = (w, tt)
 all_push (x ∷ xs) wish h w = (h.0, all_push xs wish h.1 w)
 
@@ -112,7 +112,7 @@ module _ (text : List ℕ) (columns : Columns) (n : ℕ) (h : TextInForm text co
       h.headed.1.bytes ∙ line_is columns _ _ _ _ placed line names.four names.act names.a names.b names.saving
 
   -- the first lines, up to the k-th after the names line
-  front : (k : ℕ) → k < n + 1 → (wishes : List Wish) × (length wishes ≡ k) × All Writable wishes × (take (k + 1) (lines_of text) ≡ lines_out columns wishes)
+  front : (k : ℕ) → k < n + 1 → (wishes : List Wish) × (length wishes ≡ k) × AllByRecursion Writable wishes × (take (k + 1) (lines_of text) ≡ lines_out columns wishes)
   front zero low = ([], refl, tt, take_more (lines_of text) 0 [] (omega (arith, h.end.0)) ∙ ap (λ (l : List ℕ). l ∷ []) names_line)
   front (suc k) low =
       let (wishes, count, writable, is) = front k (omega arith) in
@@ -151,7 +151,7 @@ free_cons : (mark c : ℕ) (xs : List ℕ) → (c ≡ mark → ⊥) → Free mar
 free_cons mark c xs ne p zero lt is = ne is
 free_cons mark c xs ne p (suc i) lt is = p i (omega arith) is
 
-joined_free : (mark other : ℕ) (ps : List (List ℕ)) → (other ≡ mark → ⊥) → All (Free mark) ps → Free mark (joined other ps)
+joined_free : (mark other : ℕ) (ps : List (List ℕ)) → (other ≡ mark → ⊥) → AllByRecursion (Free mark) ps → Free mark (joined other ps)
 joined_free mark other [] ne h i lt is = omega arith
 joined_free mark other (p ∷ []) ne h i lt is = h.0 i lt is
 joined_free mark other (p ∷ q ∷ ps) ne h i lt is =
@@ -161,11 +161,11 @@ module _ (columns : Columns) (placing : Placing columns) where
   apart : ◌≡◌ {A = ℕ} 59 10 → ⊥
   apart e = omega arith
 
-  wishes_free : (wishes : List Wish) → All Writable wishes → All (Free 10) (map (λ w. joined 59 (wish_row columns w)) wishes ++ [] ∷ [])
+  wishes_free : (wishes : List Wish) → AllByRecursion Writable wishes → AllByRecursion (Free 10) (map (λ w. joined 59 (wish_row columns w)) wishes ++ [] ∷ [])
   wishes_free [] h = (λ i lt is. omega arith, tt)
   wishes_free (w ∷ ws) h = (joined_free 10 59 (wish_row columns w) apart (wish_free 10 (inr refl) columns w h.0), wishes_free ws h.1)
 
-  lines_are : (wishes : List Wish) → All Writable wishes → lines_of (written columns wishes) ≡ lines_out columns wishes ++ [] ∷ []
+  lines_are : (wishes : List Wish) → AllByRecursion Writable wishes → lines_of (written columns wishes) ≡ lines_out columns wishes ++ [] ∷ []
   lines_are wishes h =
       cut_joined 10 (lines_out columns wishes ++ [] ∷ []) (omega arith)
       (joined_free 10 59 (names_row columns) apart (names_free 10 (inr refl) columns), wishes_free wishes h)
@@ -182,12 +182,12 @@ module _ (columns : Columns) (placing : Placing columns) where
   last_line [] = (refl, refl)
   last_line (w ∷ ws) = let l = last_line ws in (omega (arith, l.0), l.1)
 
-  writable_at : (wishes : List Wish) (place : ℕ) → All Writable wishes → place < length wishes → Writable (get_or wishes place (closes 0 0))
+  writable_at : (wishes : List Wish) (place : ℕ) → AllByRecursion Writable wishes → place < length wishes → Writable (get_or wishes place (closes 0 0))
   writable_at [] place h low = absurd (omega arith)
   writable_at (w ∷ ws) zero h low = h.0
   writable_at (w ∷ ws) (suc place) h low = writable_at ws place h.1 (omega arith)
 
-  reads_as : (wishes : List Wish) → All Writable wishes → ReadsAs (written columns wishes) columns wishes
+  reads_as : (wishes : List Wish) → AllByRecursion Writable wishes → ReadsAs (written columns wishes) columns wishes
   reads_as wishes h =
       let are = lines_are wishes h in
       let last = last_line wishes in

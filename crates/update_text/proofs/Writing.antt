@@ -1,6 +1,6 @@
 -- A line that was written reads back as what it was written from.
 use Rattle.std.proofs.Common.{◌≡◌, ℕ, zero, suc, ◌^◌, ◌<◌, Bool, true, not, ◌&&◌, eqb, ◌⊎◌, List, [], ◌∷◌, length, get_or, Ok, Err, codes, decimal, Result, sym, refl, ap, ◌∙◌, subst, inl, inr, arith, MatchResult}
-use Rattle.std.specs.List.{AllByRecursion as All}
+use Rattle.std.specs.List.{AllByRecursion}
 use Rattle.std.proofs.lemmas.Bool.{both_ways, cond_both, cond-false, cond-true, eq-eqb, ne_eqb}
 use Rattle.std.proofs.lemmas.Bool.Decides.{nat_tests}
 use Rattle.update_text.specs.Cuts.{Free, cut}
@@ -32,7 +32,7 @@ module _ (columns : Columns) (act a b saving : List ℕ) where
   row_at (suc (suc (suc zero))) low = refl
   row_at (suc (suc (suc (suc k)))) low = absurd (omega arith)
 
-  row_free : (mark : ℕ) → Free mark act → Free mark a → Free mark b → Free mark saving → All (Free mark) (row columns act a b saving)
+  row_free : (mark : ℕ) → Free mark act → Free mark a → Free mark b → Free mark saving → AllByRecursion (Free mark) (row columns act a b saving)
   row_free mark p q r s =
       let each : (place : ℕ) → Free mark (in_column columns act a b saving place) = λ place.
       cond_both (eqb place columns.act) _ _ (Free mark) (λ _. p)
@@ -118,15 +118,15 @@ asks_wish columns line (closes a b) (order.Off x y) w act_is a_is b_is saving_is
     cc
 
 -- the fields of a line that was written
-fields_are : (fields : List (List ℕ)) (line : Part) → 0 < length fields → All (Free 59) fields → Writes fields line → fields_of line ≡ fields
+fields_are : (fields : List (List ℕ)) (line : Part) → 0 < length fields → AllByRecursion (Free 59) fields → Writes fields line → fields_of line ≡ fields
 fields_are fields line some free h = ap (cut 59) h.bytes ∙ cut_joined 59 fields some free
 
 -- neither mark in the names and in what is written of a wish
-pub names_free : (mark : ℕ) → Mark mark → (columns : Columns) → All (Free mark) (names_row columns)
+pub names_free : (mark : ℕ) → Mark mark → (columns : Columns) → AllByRecursion (Free mark) (names_row columns)
 names_free mark m columns =
     row_free columns _ _ _ _ mark (word_free mark m (codes "act") refl) (word_free mark m (codes "a") refl) (word_free mark m (codes "b") refl) (word_free mark m (codes "saving") refl)
 
-pub wish_free : (mark : ℕ) → Mark mark → (columns : Columns) (wish : Wish) → Writable wish → All (Free mark) (wish_row columns wish)
+pub wish_free : (mark : ℕ) → Mark mark → (columns : Columns) (wish : Wish) → Writable wish → AllByRecursion (Free mark) (wish_row columns wish)
 wish_free mark m columns wish w =
     row_free columns _ _ _ _ mark (act_free mark m (act_of wish)) (number_free mark m _ (first_number wish w)) (number_free mark m _ (second_number wish w)) (saving_free mark m wish w)
 

@@ -1,6 +1,6 @@
 -- A list of bytes that is taken apart at a mark.
 use Rattle.std.specs.Prelude.{◌≡◌, ℕ, ◌+◌, ◌<◌, cond, List, [], ◌∷◌, ◌++◌, length, ◌==◌, ◌≢◌, slice_index}
-use Rattle.std.specs.List.{AllByRecursion as All}
+use Rattle.std.specs.List.{AllByRecursion}
 
 -- no byte is the mark
 abbrev pub Free : ℕ → List ℕ → Type 0
@@ -36,4 +36,4 @@ width (p ∷ ps) = length p + 1 + width ps
 -- parts that are cut are free of the mark and join to what was cut, and parts that are free of it are cut as they were joined
 abbrev pub CutsAndJoins : Type 0
 CutsAndJoins =
-    (mark : ℕ) → ((bytes : List ℕ) → (joined mark (cut mark bytes) ≡ bytes) × All (Free mark) (cut mark bytes)) × ((ps : List (List ℕ)) → 0 < length ps → All (Free mark) ps → cut mark (joined mark ps) ≡ ps)
+    (mark : ℕ) → ((bytes : List ℕ) → (joined mark (cut mark bytes) ≡ bytes) × AllByRecursion (Free mark) (cut mark bytes)) × ((ps : List (List ℕ)) → 0 < length ps → AllByRecursion (Free mark) ps → cut mark (joined mark ps) ≡ ps)

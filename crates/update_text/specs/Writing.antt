@@ -1,6 +1,6 @@
 -- Writing lines and whole texts out, and reading them back.
 use Rattle.std.specs.Prelude.{◌≡◌, ℕ, ◌+◌, ◌^◌, ◌<◌, true, cond, List, [], ◌∷◌, ◌++◌, map, length, codes, decimal, Result, MatchResult, ◌==◌, slice_index_or}
-use Rattle.std.specs.List.{AllByRecursion as All}
+use Rattle.std.specs.List.{AllByRecursion}
 use Rattle.update_text.specs.Cuts.{joined}
 use Rattle.update_text.specs.Fields.{hyphen}
 use Rattle.update_text.specs.Names.{NamesLine, Placing}
@@ -97,12 +97,12 @@ pub record TextInForm (text : List ℕ) (columns : Columns) (n : ℕ) : Type 0 w
 pub record WrittenFrom (text : List ℕ) (columns : Columns) (n : ℕ) : Type 0 where
   pub wishes : List Wish
   pub count : length wishes ≡ n
-  pub writable : All Writable wishes
+  pub writable : AllByRecursion Writable wishes
   pub placing : Placing columns
   pub is : text ≡ written columns wishes
 
 -- a list of wishes that is written out by any placing of the columns reads back as that list, and a text in form is one that was written so
 abbrev pub WrittenAndRead : Type 0
 WrittenAndRead =
-    ((columns : Columns) (wishes : List Wish) → Placing columns → All Writable wishes → ReadsAs (written columns wishes) columns wishes)
+    ((columns : Columns) (wishes : List Wish) → Placing columns → AllByRecursion Writable wishes → ReadsAs (written columns wishes) columns wishes)
     × ((text : List ℕ) (columns : Columns) (n : ℕ) → TextInForm text columns n → WrittenFrom text columns n)
