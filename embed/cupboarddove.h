@@ -1,6 +1,6 @@
 /* The pairing board for a program in C.
  *
- * Link with target/staticlib/libembed.a and with the kit's librattle_c.a; scripts/embed does it.
+ * Link with crates/embed/out/libembed.a and with the kit's c/liblibc_c.a; scripts/embed does it.
  * No function keeps anything between two calls, and none writes outside the bytes that it is given.
  * The proofs end at this border: a pointer has to be good for as many bytes as its length says.
  */

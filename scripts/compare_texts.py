@@ -1,7 +1,7 @@
 #!/usr/bin/env python3
 """Holds the program `pairs` against a second reader, written here from docs/ alone, on seeded texts, good and damaged.
 
-    scripts/pairs >/dev/null                     # builds target/bin/pairs
+    scripts/pairs >/dev/null                     # builds crates/pairs/out/pairs
     scripts/compare_texts.py [TEXTS] [SEED]      # 20000 texts from seed 1, if not said otherwise
 
 Prints the number of texts and how many of them met each refusal; ends with status 1 at the first difference,
@@ -195,7 +195,7 @@ def damaged(draw, text):
 def main():
     texts = int(sys.argv[1]) if len(sys.argv) > 1 else 20000
     first = int(sys.argv[2]) if len(sys.argv) > 2 else 1
-    program = os.path.join(os.path.dirname(os.path.abspath(__file__)), "..", "target", "bin", "pairs")
+    program = os.path.join(os.path.dirname(os.path.abspath(__file__)), "..", "crates", "pairs", "out", "pairs")
     met = collections.Counter()
     for seed in range(first, first + texts):
         text = some_text(random.Random(seed))
