@@ -3,6 +3,8 @@
 
 #[cfg(test)]
 mod figures;
+#[cfg(test)]
+mod keeper_report;
 mod lone;
 #[cfg(test)]
 mod texts;

@@ -1,4 +1,5 @@
 //! What `pairs` prints for one text after the other.
+use crate::keeper_report::report_over_a_keeper;
 use board::Board;
 use keepers::{Patient, Reader};
 use listing::report;
@@ -13,13 +14,15 @@ struct Case {
     printed: &'static str,
 }
 
-/// Every case of a table prints what it should.
+/// Every case of a table prints what it should, fed to a board and fed to a keeper alone.
 fn check_cases(rt: &(impl Abort + AllocGlobal), cases: &[Case]) -> Result<(), Fail> {
     for case in cases {
         let out = report(rt.alloc(), case.text)?;
         let mut expected = String::from_str(rt.alloc(), "a;b;saving\n")?;
         expected.push_str(case.printed)?;
         assert_eq!(rt; out, expected);
+        let other = report_over_a_keeper(rt.alloc(), case.text)?;
+        assert_eq!(rt; other, expected);
     }
     Ok(())
 }
@@ -409,6 +412,8 @@ fn longest_text(rt: HostRuntime) -> Result<(), Fail> {
     assert_eq!(rt; text.len(), 32768);
     let out = report(rt.alloc(), &text)?;
     assert!(rt; out.as_str() == "a;b;saving\n1;2;3\nstopped;3275;32750;11\n");
+    let other = report_over_a_keeper(rt.alloc(), &text)?;
+    assert!(rt; other.as_str() == "a;b;saving\n1;2;3\nstopped;3275;32750;11\n");
     Ok(())
 }
 
@@ -418,6 +423,8 @@ fn too_long_text(rt: HostRuntime) -> Result<(), Fail> {
     assert_eq!(rt; text.len(), 32769);
     let out = report(rt.alloc(), &text)?;
     assert!(rt; out.as_str() == "a;b;saving\nstopped;1;0;9\n");
+    let other = report_over_a_keeper(rt.alloc(), &text)?;
+    assert!(rt; other.as_str() == "a;b;saving\nstopped;1;0;9\n");
     Ok(())
 }
 
@@ -430,6 +437,8 @@ fn every_byte_value(rt: HostRuntime) -> Result<(), Fail> {
     }
     let out = report(rt.alloc(), &text)?;
     assert!(rt; out.as_str() == "a;b;saving\n3;4;5\nstopped;3;25;12\n");
+    let other = report_over_a_keeper(rt.alloc(), &text)?;
+    assert!(rt; other.as_str() == "a;b;saving\n3;4;5\nstopped;3;25;12\n");
     Ok(())
 }
 
