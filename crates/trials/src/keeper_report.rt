@@ -10,7 +10,7 @@ const METERS: u32 = 256;
 
 /// What `pairs` prints for an update text: a heading, a line for each kept pair by rising lower meter,
 /// and, where the text was stopped at, a line that says so.
-pub fn report_over_a_keeper(heap: Global, text: &[u8]) -> Result<String, AllocError> {
+pub(crate) fn report_over_a_keeper(heap: Global, text: &[u8]) -> Result<String, AllocError> {
     let mut table = [Proposal::FILLER; 4096];
     let mut keeper = Patient::new(GroupSize::nearest(METERS), &mut table);
     let fed = feed(&mut keeper, text);
