@@ -1,7 +1,9 @@
 -- The computed level is the one that the powers of the ratio say.
-use Rattle.std.proofs.Common.{◌≡◌, ℕ, zero, suc, ◌+◌, ◌*◌, ◌^◌, ◌<◌, ◌≤◌, min, leb, refl, ap, ⊎_elim, zero-le, add-one, arith}
+use Rattle.std.proofs.Common.{◌≡◌, ℕ, zero, suc, ◌+◌, ◌*◌, ◌^◌, ◌<◌, ◌≤◌, min, leb, refl, sym, ap, ◌∙◌, ⊎_elim, zero-le, add-one, arith}
 use native.Mathlib.Nat.{pow-zero, pow-succ', pow-le-pow_left, pow-le-pow_right}
 use Rattle.std.proofs.lemmas.Bool.{leb-true, leb-false, cond_both, cases_lt}
+use Rattle.std.specs.Prelude.{IfNone, IfSome, None, Some, Option}
+use Rattle.std.specs.Option.{unwrap_or}
 use Rattle.proposals.specs.Levels.{highest, level_of, AtLevel}
 
 highest_le : (n r s : ℕ) → highest n r s ≤ n
@@ -59,3 +61,8 @@ level_of_log s k reached below =
     let down : 2 ^ min k 19 ≤ 2 ^ k = pow-le-pow_right (omega arith) (omega arith) in
     level_is s (min k 19) (omega arith) (omega arith)
     (λ lt. let same : 2 ^ min k 19 ≡ 2 ^ k = ap (λ i. 2 ^ i) (omega arith) in rw (add-one (min k 19), pow-succ' 2 (min k 19)) (omega arith))
+
+-- the same of a logarithm that 0 has none of
+pub level_of_checked_log : (s : ℕ) (o : Option ℕ) → IfNone o (s ≡ 0) → IfSome o (λ k. 2 ^ k ≤ s) → IfSome o (λ k. s < 2 * 2 ^ k) → min (unwrap_or o 0) 19 ≡ level_of 2 s
+level_of_checked_log s None none reached below = sym (ap (level_of 2) none ∙ level_zero)
+level_of_checked_log s (Some k) none reached below = sym (level_of_log s k reached below)

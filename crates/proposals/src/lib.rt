@@ -10,8 +10,8 @@ mod refusals;
 mod sizes;
 mod sizing;
 
-pub use levels::level;
+pub use levels::{LEVELS, level};
 pub use pairs::Pair;
 pub use proposals::Proposal;
 pub use refusals::{Layer, Reason, Refusal};
-pub use sizes::GroupSize;
+pub use sizes::{GroupSize, METERS};

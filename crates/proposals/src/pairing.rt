@@ -3,7 +3,7 @@ ghost use Rattle.std.specs.Ordering.{MatchOrdering};
 ghost use Rattle.proposals.specs.Making.{pair_refusal, Pairs, Before};
 
 use crate::pairs::Pair;
-use crate::refusals::{Reason, Refusal, refuse};
+use crate::refusals::{Layer, Reason, Refusal};
 use std::cmp::Ordering;
 
 impl Pair {
@@ -12,7 +12,7 @@ impl Pair {
         ensures { MatchResult result (λ p. (pair_refusal a b ≡ None) × Pairs p a b) (λ e. pair_refusal a b ≡ Some e) }
     {
         if a == b {
-            return Err(refuse(Reason::EqualMeters));
+            return Err(Reason::EqualMeters.found_by(Layer::Proposal));
         }
         let low = a.min(b);
         let high = a.max(b);
@@ -34,10 +34,10 @@ impl Pair {
     }
 
     /// Whether the pair comes before the other, is it or comes after it: by the lower meter, then by the higher one.
+    /// This is the derived order, with a contract that says which it is.
     pub fn order(self, other: Pair) -> Ordering
         ensures { MatchOrdering result (Before self other) ((self.low ≡ other.low) × (self.high ≡ other.high)) (Before other self) }
     {
-        let lower = self.low.cmp(&other.low);
-        lower.then(self.high.cmp(&other.high))
+        self.cmp(&other)
     }
 }

@@ -1,7 +1,7 @@
 ghost use Rattle.std.specs.Prelude.{◌<◌};
 
-/// Two different meters, the lower first.
-#[derive(Clone, Copy)]
+/// Two different meters, the lower first. Pairs are in order by the lower meter, then by the higher one.
+#[derive(Clone, Copy, PartialEq, Eq, PartialOrd, Ord, Debug)]
 pub struct Pair {
     pub(crate) low: u32,
     pub(crate) high: u32,

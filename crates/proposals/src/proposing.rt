@@ -5,7 +5,7 @@ ghost use Rattle.proposals.specs.Making.{proposal_refusal, Proposes};
 use crate::levels::level;
 use crate::pairs::Pair;
 use crate::proposals::Proposal;
-use crate::refusals::{Reason, Refusal, refuse};
+use crate::refusals::{Layer, Reason, Refusal};
 
 impl Proposal {
     /// What fills a table before it is handed to a keeper, which reads none of it.
@@ -21,7 +21,7 @@ impl Proposal {
     {
         let pair = Pair::new(a, b)?;
         if saving == 0 || saving > 1_048_575 {
-            return Err(refuse(Reason::SavingOutOfRange));
+            return Err(Reason::SavingOutOfRange.found_by(Layer::Proposal));
         }
         Ok(Proposal {
             low: pair.low,
