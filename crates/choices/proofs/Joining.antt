@@ -17,22 +17,22 @@ use Rattle.choices.proofs.Showing.{chosen_mated}
 
 -- the two functions, place by place
 module _ (N : ℕ → ℕ → ℕ) (l a b : ℕ) where
-  joined_low : a ≢ b → joined N l a b l a ≡ b
+  pub joined_low : a ≢ b → joined N l a b l a ≡ b
   joined_low ne = grind (arith, nat_tests)
 
-  joined_high : joined N l a b l b ≡ a
+  pub joined_high : joined N l a b l b ≡ a
   joined_high = grind (arith, nat_tests)
 
-  joined_else : (j u : ℕ) → (j ≡ l → u ≡ a → ⊥) → (j ≡ l → u ≡ b → ⊥) → joined N l a b j u ≡ N j u
+  pub joined_else : (j u : ℕ) → (j ≡ l → u ≡ a → ⊥) → (j ≡ l → u ≡ b → ⊥) → joined N l a b j u ≡ N j u
   joined_else j u p q = grind (arith, nat_tests)
 
-  parted_low : parted N l a b l a ≡ a
+  pub parted_low : parted N l a b l a ≡ a
   parted_low = grind (arith, nat_tests)
 
-  parted_high : parted N l a b l b ≡ b
+  pub parted_high : parted N l a b l b ≡ b
   parted_high = grind (arith, nat_tests)
 
-  parted_else : (j u : ℕ) → (j ≡ l → u ≡ a → ⊥) → (j ≡ l → u ≡ b → ⊥) → parted N l a b j u ≡ N j u
+  pub parted_else : (j u : ℕ) → (j ≡ l → u ≡ a → ⊥) → (j ≡ l → u ≡ b → ⊥) → parted N l a b j u ≡ N j u
   parted_else j u p q = grind (arith, nat_tests)
 
 -- the levels of all proposals are of the table, and so are the meters of those below 256

@@ -24,7 +24,7 @@ other_is p v h =
     ]
 
 -- the pair that joins q's lower meter to its higher one is q's
-same_meters : (p q : Proposal) → has p q.low ≡ true → other p q.low ≡ q.high → (p.low ≡ q.low) × (p.high ≡ q.high)
+pub same_meters : (p q : Proposal) → has p q.low ≡ true → other p q.low ≡ q.high → (p.low ≡ q.low) × (p.high ≡ q.high)
 same_meters p q h e =
     elim (other_is p q.low h) [
       | inl x ↦ (x.0, sym x.1 ∙ e)

@@ -1,5 +1,5 @@
 -- The table of mates as a function: N l v is the mate of the meter v at the level l, or v itself where it has none.
-use Rattle.std.specs.Prelude.{◌≡◌, ℕ, ◌+◌, ◌*◌, ◌<◌, Bool, false, cond, not, ◌&&◌, ◌||◌, is_some, Some, None, Option, ◌==◌, nat_lt, slice_index}
+use Rattle.std.specs.Prelude.{◌≡◌, ℕ, ◌<◌, Bool, cond, not, ◌&&◌, ◌||◌, is_some, Some, None, Option, ◌==◌, nat_lt, slice_index, slice_index_or, []}
 use Rattle.proposals.specs.declared.proposals.Proposal.{Proposal}
 use Rattle.matching.specs.Matching.{level}
 use Rattle.matching.specs.Meanings.{ratio}
@@ -7,7 +7,7 @@ use Rattle.choices.specs.declared.mates.Mates.{Mates}
 
 -- what the table holds
 abbrev pub entry : Mates → ℕ → ℕ → ℕ
-entry m l v = slice_index m.mates (256 * l + v)
+entry m l v = slice_index (slice_index_or m.mates l []) v
 
 -- a place of the table
 abbrev pub in_table : ℕ → ℕ → Bool
@@ -68,7 +68,3 @@ Holds m N = (l v : ℕ) → l < 20 → v < 256 → entry m l v ≡ N l v
 -- each meter has its own number
 abbrev pub alone : ℕ → ℕ → ℕ
 alone l v = v
-
--- not a place of the table
-abbrev pub Outside : ℕ → ℕ → Type 0
-Outside l v = in_table l v ≡ false

@@ -1,31 +1,24 @@
-ghost use Rattle.std.specs.Prelude.{◌≡◌, ◌+◌, ◌*◌, ◌<◌, ◌≤◌, ◌⊎◌, MatchOption};
+ghost use Rattle.std.specs.Prelude.{◌≡◌, ℕ, ◌<◌, ◌≤◌, ◌⊎◌, slice_index};
 ghost use Rattle.matching.specs.Lists.{first_of};
-ghost use Rattle.choices.specs.Mates.{entry, mate_shown, free_in, both_free, mated, offered, written, joined, joined_if_free, considered, parted, parted_if_mated, cleared, Holds, Outside, alone};
+ghost use Rattle.choices.specs.Mates.{entry, mate_shown, free_in, both_free, mated, offered, written, joined, joined_if_free, considered, parted, parted_if_mated, cleared, Holds, alone};
 ghost use Rattle.choices.specs.Showing.{ChoosesInTurn};
 
-use proposals::Proposal;
+use proposals::{LEVELS, METERS, Proposal};
+use std::array;
 
-/// How many levels there are.
-const LEVELS: u32 = 20;
-
-/// The most meters that a group has.
-const METERS: u32 = 256;
-
-/// A choice: for each level and each meter the mate that is chosen for it there, or its own number.
+/// A choice: for each level and each meter the mate that is chosen for it there.
 #[derive(Drop)]
 pub struct Mates {
-    mates: [u8; 5120],
+    /// A row for each level: each meter's mate there, or its own number where it has none.
+    /// No `Option`s, since `Some` of the meter itself could stand among them, and each read would have to rule that out.
+    mates: [[u8; METERS as usize]; LEVELS as usize],
 }
 
-/// Where the mate of a meter at a level stands.
-fn place(meter: u32, level: u32) -> Option<usize>
-    ensures { MatchOption result (Outside level meter) (λ i. (i ≡ 256 * level + meter) × (level < 20) × (meter < 256)) }
+/// A row in which no meter has a mate.
+fn own_numbers() -> [u8; METERS as usize]
+    ensures { (v : ℕ) → v < 256 → slice_index result v ≡ v }
 {
-    if meter < METERS && level < LEVELS {
-        Some((METERS * level + meter) as usize)
-    } else {
-        None
-    }
+    array::from_fn(|meter| meter as u8)
 }
 
 impl Mates {
@@ -33,22 +26,18 @@ impl Mates {
     pub fn new() -> Mates
         ensures { Holds result alone }
     {
-        let mut mates = [0u8; 5120];
-        for i in 0..5120 {
-            mates[i] = (i % 256) as u8;
+        Mates {
+            mates: [own_numbers(); LEVELS as usize],
         }
-        Mates { mates }
     }
 
     /// The mate of a meter at a level; none outside the group or the levels.
     pub fn mate(&self, meter: u32, level: u32) -> Option<u32>
         ensures { result ≡ mate_shown (entry self.now) meter level }
     {
-        let Some(at) = place(meter, level) else {
-            return None;
-        };
-        let mate = u32::from(self.mates[at]);
-        if mate == meter { None } else { Some(mate) }
+        let row = self.mates.get(level as usize)?;
+        let mate = u32::from(*row.get(meter as usize)?);
+        (mate != meter).then_some(mate)
     }
 
     /// Whether a meter has no mate at a level.
@@ -82,36 +71,28 @@ impl Mates {
         ensures outside { 256 ≤ proposal.high → self.new ≡ self.old }
     {
         let level = proposal.level();
-        if self.mate(proposal.low(), level) != Some(proposal.high()) {
-            return false;
+        let were_mates = self.mate(proposal.low(), level) == Some(proposal.high());
+        if were_mates {
+            self.part(proposal.low(), proposal.high(), level);
         }
-        self.part(proposal.low(), proposal.high(), level);
-        true
+        were_mates
     }
 
     /// Whether a proposal is of the level, has the meter, and both its meters are free.
     fn offers(&self, proposal: Proposal, meter: u32, level: u32) -> bool
         ensures { result ≡ offered (entry self.now) level meter proposal }
     {
-        if !proposal.has(meter) {
-            return false;
-        }
-        if proposal.level() != level {
-            return false;
-        }
-        self.are_free(proposal)
+        proposal.has(meter) && proposal.level() == level && self.are_free(proposal)
     }
 
     /// The first proposal that offers to join a meter at a level.
     pub fn first_offer(&self, opened: &[Proposal], meter: u32, level: u32) -> Option<Proposal>
         ensures { result ≡ first_of (offered (entry self.now) level meter) opened.now }
     {
-        for proposal in opened {
-            if self.offers(*proposal, meter, level) {
-                return Some(*proposal);
-            }
-        }
-        None
+        opened
+            .iter()
+            .copied()
+            .find(|proposal| self.offers(*proposal, meter, level))
     }
 
     /// Leaves every meter without a mate at a level.
@@ -119,12 +100,13 @@ impl Mates {
         ensures cleared { level < 20 → Holds self.new (cleared (entry self.old) level) }
         ensures outside { 20 ≤ level → self.new ≡ self.old }
     {
-        for meter in 0..METERS {
-            self.set(meter, level, meter);
+        if level < LEVELS {
+            self.mates[level as usize] = own_numbers();
         }
     }
 
     /// Goes through proposals in their order, and joins the meters of each one of a level that finds both free there.
+    #[tactic(auto, using(crate::proofs::Turns::turn_end))]
     pub fn choose_in_turn(&mut self, opened: &[Proposal], level: u32)
         ensures { ChoosesInTurn (entry self.old) opened.now level (entry self.new) }
     {
@@ -141,6 +123,9 @@ impl Mates {
             self.join_if_free(proposal);
         }
     }
+
+    // `join` and `part` take plain numbers: a type with their bounds would ask more of callers. They stay two functions,
+    // since what each writes is said in two lines.
 
     /// Makes each of two meters the other's mate at a level.
     pub fn join(&mut self, a: u32, b: u32, level: u32)
@@ -170,8 +155,9 @@ impl Mates {
         ensures written { level < 20 → Holds self.new (written (entry self.old) level meter mate) }
         ensures outside { 20 ≤ level → self.new ≡ self.old }
     {
-        if let Some(at) = place(meter, level) {
-            self.mates[at] = mate as u8;
+        if level < LEVELS {
+            let row = &mut self.mates[level as usize];
+            row[meter as usize] = mate as u8;
         }
     }
 }

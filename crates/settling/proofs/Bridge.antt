@@ -10,10 +10,11 @@ use Rattle.matching.specs.Matching.{level, has, other, shares, Pairing, Settled,
 use Rattle.matching.specs.Canonical.{joins, partner_in}
 use Rattle.matching.specs.Meanings.{Meaning, Lawful, ratio, mate_of}
 use Rattle.matching.proofs.Lists.{none_some, kept_by_in, in_kept_by, pairwise_kept_by, pairwise_weaker, pairwise_two, first_only, first_nothing}
-use Rattle.matching.proofs.Pairs.{has_cases, has_low, has_high, other_low, other_high, share_at, share_sym, shares_by, one_pair}
+use Rattle.matching.proofs.Pairs.{has_cases, has_low, has_high, other_high, share_at, share_sym, shares_by, one_pair}
 use Rattle.matching.proofs.Order.{joins_self, one_open, one_answer, picked_ascends}
 use Rattle.matching.proofs.Telling.{telling}
 use Rattle.choices.specs.Mates.{entry, mate_shown}
+use Rattle.choices.proofs.Showing.{same_meters}
 use Rattle.settling.specs.declared.kept_pairs.KeptPairs.{KeptPairs}
 use Rattle.settling.specs.Kept.{height_of, partner_shown, Sound, Copies}
 use Rattle.settling.proofs.Tables.{some_shown, shown_some}
@@ -35,14 +36,6 @@ partner_at k v j e =
     let d : height_of k v - 1 ≡ j = omega arith in
     let f : eqb (height_of k v) 0 ≡ false = grind (arith, nat_tests) in
     cond-false (eqb (height_of k v) 0) _ _ f ∙ ap (mate_shown (entry k.choice) v) d
-
--- the pair that joins p's lower meter to its higher one is p's
-same_meters : (q p : Proposal) → has q p.low ≡ true → other q p.low ≡ p.high → (q.low ≡ p.low) × (q.high ≡ p.high)
-same_meters q p x e =
-    elim (has_cases q p.low x) [
-      | inl y ↦ (y, sym (other_low q) ∙ (ap (other q) y ∙ e))
-      | inr y ↦ absurd (omega (arith, y, other_high q, ap (other q) y, e, q.apart, p.apart))
-    ]
 
 module _ (k : KeptPairs) (C : List Proposal) (h : Copies k C) where
   low_inside : (p : Proposal) → p ∈ C → p.low < 256

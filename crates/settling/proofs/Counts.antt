@@ -1,8 +1,12 @@
 -- The pairs that two pairings differ by, counted meter by meter.
-use Rattle.std.proofs.Common.{◌≡◌, ℕ, zero, suc, ◌+◌, ◌<◌, ◌≤◌, Bool, true, false, cond, not, ◌&&◌, eqb, ltb, List, [], ◌∷◌, length, filter, sym, refl, ap, ◌∙◌, inl, inr, ⊎_elim, add-one, arith, length-append}
+use Rattle.std.proofs.Common.{◌≡◌, ℕ, zero, suc, ◌+◌, ◌<◌, ◌≤◌, Bool, true, false, cond, not, ◌&&◌, eqb, ltb, List, [], ◌∷◌, ◌++◌, length, filter, sym, refl, ap, ◌∙◌, inl, inr, ⊎_elim, add-one, arith, length-append}
 use mir.Val.{bool_byte}
 use Rattle.std.proofs.lemmas.Bool.{cases_Bool, cases_eq, both_ways, eq-eqb, ne_eqb, eqb-false, and_parts, and_from, not-true, ltb-true, lt-ltb}
 use Rattle.std.proofs.lemmas.Bool.Decides.{nat_tests}
+use Rattle.std.specs.List.{range_with_len}
+use Rattle.std.proofs.lemmas.List.{map-id}
+use Rattle.std.proofs.lemmas.List.Elements.{filter-append}
+use Rattle.std.proofs.lemmas.List.FromFn.{map-range_with_len_more}
 use Rattle.proposals.specs.declared.proposals.Proposal.{Proposal}
 use Rattle.matching.specs.Lists.{◌∈◌, Pairwise}
 use Rattle.matching.specs.Matching.{is_in, altered}
@@ -107,10 +111,7 @@ altered_is A B P Q n a b upA upB lowA lowB in_b in_a =
       tally_is B (λ p. not (is_in A p)) (lost Q P) n upB lowB (λ p m. lost_is n B A Q P p b a (in_a p m) m) (λ v lt h. b.only v lt (ltb-true v (Q v) (and_parts (ltb v (Q v)) (not (eqb (Q v) (P v))) h).0)),
     )
 
--- a turn of the loop that counts
-pub differing_more : (P Q : ℕ → ℕ) (n : ℕ) → differing P Q (n + 1) ≡ differing P Q n + (one (lost P Q n) + one (lost Q P n))
-differing_more P Q n = ap (differing P Q) (add-one n) ∙ omega arith
-
+-- a test as a number
 pub byte_is : (b : Bool) → bool_byte b ≡ one b
 byte_is true = refl
 byte_is false = refl
@@ -131,3 +132,17 @@ differing_same P R Q n h =
       tally_same (lost P Q) (lost R Q) n (λ v lt. ap (λ w. ltb v w && not (eqb w (Q v))) (h v lt)),
       tally_same (lost Q P) (lost Q R) n (λ v lt. ap (λ w. ltb v (Q v) && not (eqb (Q v) w)) (h v lt)),
     )
+
+-- a tally as a chain of iterators counts it
+pub tally_count : (t : ℕ → Bool) (n : ℕ) → length (filter t (range_with_len 0 n)) ≡ tally t n
+tally_count t zero = refl
+tally_count t (suc n) =
+    ap (λ k. length (filter t (range_with_len 0 k))) (sym (add-one n)) ∙ ap (λ l. length (filter t l)) more ∙
+    omega (arith, ap length (filter-append t (range_with_len 0 n) (n ∷ [])), length-append (filter t (range_with_len 0 n)) (filter t (n ∷ [])), tally_count t n, last (t n))
+  where
+    more : range_with_len 0 (n + 1) ≡ range_with_len 0 n ++ n ∷ []
+    more = sym (map-id _) ∙ map-range_with_len_more (λ x. x) 0 n n (omega arith) ∙ ap (λ l. l ++ n ∷ []) (map-id _)
+
+    last : (b : Bool) → length (cond b (n ∷ []) []) ≡ one b
+    last true = refl
+    last false = refl

@@ -3,10 +3,12 @@ use Rattle.std.proofs.Common.{◌≡◌, ℕ, ◌+◌, ◌<◌, Bool, true, fals
 use Rattle.std.proofs.lemmas.Bool.{cases_eq, false≢true}
 use Rattle.choices.specs.declared.mates.Mates.{Mates}
 use Rattle.choices.specs.Mates.{entry, joined, parted, Holds, alone}
+use Rattle.choices.proofs.Joining.{joined_low, joined_high, joined_else, parted_low, parted_high, parted_else}
 use Rattle.settling.specs.declared.kept_pairs.KeptPairs.{KeptPairs}
+use Rattle.settling.specs.declared.places.Place.{Place}
 use Rattle.settling.specs.Kept.{height_of, joinable, are_mates, Symmetric, Paired, Sound, Begun}
 use Rattle.settling.specs.Steps.{Done, SettledBut, Upto, Out, Or, PairedIn, SettledIn, Released, Resettled}
-use Rattle.settling.proofs.Tables.{joinable_parts, mates_parts, joined_first, joined_second, joined_rest, parted_first, parted_second, parted_rest}
+use Rattle.settling.proofs.Tables.{joinable_parts, mates_parts}
 use Rattle.settling.proofs.Moves.{released_choice, released_free, released_paired, released_due, released_mate, resettle_both}
 
 pub begun : (k : KeptPairs) → Holds k.choice alone → ((v : ℕ) → height_of k v ≡ 0) → Begun k
@@ -33,17 +35,17 @@ record Changed (N N' : ℕ → ℕ → ℕ) (l a x b y : ℕ) : Type 0 where
 joins : (c : Mates) (N : ℕ → ℕ → ℕ) (l a b : ℕ) → l < 20 → a < 256 → b < 256 → a ≢ b → Holds c (joined N l a b) → Changed N (entry c) l a b b a
 joins c N l a b hl ha hb ne h =
     record {
-      first = h l a hl ha ∙ joined_first N l a b ne;
-      second = h l b hl hb ∙ joined_second N l a b;
-      rest = λ j v hj hv p q. h j v hj hv ∙ joined_rest N l a b j v p q;
+      first = h l a hl ha ∙ joined_low N l a b ne;
+      second = h l b hl hb ∙ joined_high N l a b;
+      rest = λ j v hj hv p q. h j v hj hv ∙ joined_else N l a b j v (λ e x. p (e, x)) (λ e x. q (e, x));
     }
 
 parts : (c : Mates) (N : ℕ → ℕ → ℕ) (l a b : ℕ) → l < 20 → a < 256 → b < 256 → Holds c (parted N l a b) → Changed N (entry c) l a a b b
 parts c N l a b hl ha hb h =
     record {
-      first = h l a hl ha ∙ parted_first N l a b;
-      second = h l b hl hb ∙ parted_second N l a b;
-      rest = λ j v hj hv p q. h j v hj hv ∙ parted_rest N l a b j v p q;
+      first = h l a hl ha ∙ parted_low N l a b;
+      second = h l b hl hb ∙ parted_high N l a b;
+      rest = λ j v hj hv p q. h j v hj hv ∙ parted_else N l a b j v (λ e x. p (e, x)) (λ e x. q (e, x));
     }
 
 -- the place of v at the level j is that of a or of b at the level l, or another
@@ -143,7 +145,7 @@ finish k k' D r s p t =
 
 -- the same kept pairs over another copy
 abbrev over : Mates → KeptPairs → KeptPairs
-over c k = record { choice = c; heights = k.heights }
+over c k = record { choice = c; levels = k.levels }
 
 -- ## add
 
@@ -198,7 +200,7 @@ pub record LetGo (k k₁ : KeptPairs) (a b l : ℕ) : Type 0 where
 
 -- it was kept, and was released
 pub was_kept :
-    (k k₁ : KeptPairs) (a b l : ℕ) (x : Option (ℕ × ℕ))
+    (k k₁ : KeptPairs) (a b l : ℕ) (x : Option Place)
     → Released x k k₁ a
     → height_of k a ≡ l + 1
     → Sound k
@@ -274,7 +276,7 @@ remove_sound k k₁ k₂ k₃ c a b l go holds t u o test =
     let now : Holds c (parted N l a b) = subst (λ (m : Mates). Holds c (parted (entry m) l a b)) g.same (holds hl ha hb) in
     let ch : Changed N N' l a a b b = parts c N l a b hl ha hb now in
     let D : ℕ → ℕ → Type 0 = Or (Upto a l) (Upto b l) in
-    let both : Resettled (over c k₁) k₃ D = resettle_both (over c k₁) k₂ k₃ (Some (a, l)) (Some (b, l)) t u in (
+    let both : Resettled (over c k₁) k₃ D = resettle_both (over c k₁) k₂ k₃ (Some record { meter = a; level = l; low = hl }) (Some record { meter = b; level = l; low = hl }) t u in (
       λ j v hj hv. ap (λ (m : Mates). entry m j v) both.choice ∙ now j v hj hv,
       finish (over c k₁) k₃ D both
           (change_symmetric N N' l a a b b ch s ha hb ch.first ch.second

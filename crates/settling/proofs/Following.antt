@@ -2,12 +2,12 @@
 use Rattle.std.proofs.Common.{◌≡◌, ℕ, ◌+◌, ◌<◌, ◌≤◌, min, Bool, true, false, cond, not, ◌&&◌, eqb, ltb, ◌≢◌, sym, refl, ap, ◌∙◌, subst, inl, inr, ⊎_elim, arith}
 use Rattle.std.proofs.lemmas.Bool.{cases_Bool, cases_eq, cases_lt, both_ways, cond-true, cond-false, eq-eqb, ne_eqb, eqb-false, and_parts, and_from, not-true, ltb-true, lt-ltb, eqb-true}
 use Rattle.std.proofs.lemmas.Bool.Decides.{nat_tests}
-use Rattle.choices.specs.Mates.{entry, joined, parted}
+use Rattle.choices.specs.Mates.{entry, joined, parted, Holds}
 use Rattle.settling.specs.Kept.{joinable, are_mates, Sound}
 use Rattle.settling.specs.Counts.{lost}
 use Rattle.settling.specs.Following.{Involution, gone, removed_to, come, added_to, Forgotten, Learnt, Follows}
 use Rattle.settling.specs.declared.kept_pairs.KeptPairs.{KeptPairs}
-use Rattle.settling.proofs.Tables.{joined_first, joined_second, joined_rest, parted_first, parted_second, parted_rest}
+use Rattle.choices.proofs.Joining.{joined_low, joined_high, joined_else, parted_low, parted_high, parted_else}
 
 -- of a pair that is lost
 lost_parts : (P Q : ℕ → ℕ) (i : ℕ) → lost P Q i ≡ true → (i < P i) × (P i ≢ Q i)
@@ -90,7 +90,7 @@ module _ (N₀ N : ℕ → ℕ → ℕ) (P Q : ℕ → ℕ) (p : Involution P) (
     forget_now j u hj hu =
         ⊎_elim
         (λ e. level e)
-        (λ ne. parted_rest N l i (P i) j u (λ x. ne x.0) (λ x. ne x.0) ∙ is j u hj hu ∙ cond-false (eqb j l) _ _ (ne_eqb j l ne) ∙ sym (cond-false (eqb j l) _ _ (ne_eqb j l ne)))
+        (λ ne. parted_else N l i (P i) j u (λ e _. ne e) (λ e _. ne e) ∙ is j u hj hu ∙ cond-false (eqb j l) _ _ (ne_eqb j l ne) ∙ sym (cond-false (eqb j l) _ _ (ne_eqb j l ne)))
         (cases_eq j l)
       where
         target : j ≡ l → removed_to N₀ l P Q (i + 1) j u ≡ cond (gone P Q (i + 1) u) u (P u)
@@ -99,11 +99,11 @@ module _ (N₀ N : ℕ → ℕ → ℕ) (P Q : ℕ → ℕ) (p : Involution P) (
         level : j ≡ l → parted N l i (P i) j u ≡ removed_to N₀ l P Q (i + 1) j u
         level e =
             ⊎_elim
-            (λ x. ap (λ k. parted N l i (P i) k u) e ∙ ap (parted N l i (P i) l) x ∙ parted_first N l i (P i) ∙ sym x ∙ sym (target e ∙ cond-true (gone P Q (i + 1) u) u (P u) (gone_now P Q p i hi h u (ap (λ v. min v (P v)) x ∙ low_min P Q p i hi h))))
+            (λ x. ap (λ k. parted N l i (P i) k u) e ∙ ap (parted N l i (P i) l) x ∙ parted_low N l i (P i) ∙ sym x ∙ sym (target e ∙ cond-true (gone P Q (i + 1) u) u (P u) (gone_now P Q p i hi h u (ap (λ v. min v (P v)) x ∙ low_min P Q p i hi h))))
             (λ nx. ⊎_elim
-            (λ y. ap (λ k. parted N l i (P i) k u) e ∙ ap (parted N l i (P i) l) y ∙ parted_second N l i (P i) ∙ sym y ∙ sym (target e ∙ cond-true (gone P Q (i + 1) u) u (P u) (gone_now P Q p i hi h u (ap (λ v. min v (P v)) y ∙ high_min P Q p i hi h))))
+            (λ y. ap (λ k. parted N l i (P i) k u) e ∙ ap (parted N l i (P i) l) y ∙ parted_high N l i (P i) ∙ sym y ∙ sym (target e ∙ cond-true (gone P Q (i + 1) u) u (P u) (gone_now P Q p i hi h u (ap (λ v. min v (P v)) y ∙ high_min P Q p i hi h))))
             (λ ny.
-            parted_rest N l i (P i) j u (λ x. nx x.1) (λ x. ny x.1) ∙ ap (λ k. N k u) e ∙ at_level u hu ∙
+            parted_else N l i (P i) j u (λ _ x. nx x) (λ _ x. ny x) ∙ ap (λ k. N k u) e ∙ at_level u hu ∙
             ap (λ b. cond b u (P u)) (sym (gone_else P Q p i hi u hu (other_min P Q p i hi h u hu nx ny))) ∙ sym (target e))
             (cases_eq u (P i)))
             (cases_eq u i)
@@ -222,7 +222,7 @@ module _ (N₀ N : ℕ → ℕ → ℕ) (P Q : ℕ → ℕ) (p : Involution P) (
     learn_now j u hj hu =
         ⊎_elim
         (λ e. level e)
-        (λ ne. joined_rest N l i (Q i) j u (λ x. ne x.0) (λ x. ne x.0) ∙ is j u hj hu ∙ cond-false (eqb j l) _ _ (ne_eqb j l ne) ∙ sym (cond-false (eqb j l) _ _ (ne_eqb j l ne)))
+        (λ ne. joined_else N l i (Q i) j u (λ e _. ne e) (λ e _. ne e) ∙ is j u hj hu ∙ cond-false (eqb j l) _ _ (ne_eqb j l ne) ∙ sym (cond-false (eqb j l) _ _ (ne_eqb j l ne)))
         (cases_eq j l)
       where
         target : j ≡ l → added_to N₀ l P Q (i + 1) j u ≡ come P Q (i + 1) u
@@ -234,11 +234,11 @@ module _ (N₀ N : ℕ → ℕ → ℕ) (P Q : ℕ → ℕ) (p : Involution P) (
         level : j ≡ l → joined N l i (Q i) j u ≡ added_to N₀ l P Q (i + 1) j u
         level e =
             ⊎_elim
-            (λ x. ap (λ k. joined N l i (Q i) k u) e ∙ ap (joined N l i (Q i) l) x ∙ joined_first N l i (Q i) (λ y. omega (arith, above Q P q i hi h)) ∙ ap Q (sym x) ∙ sym (target e ∙ now (ap (λ v. min v (Q v)) x ∙ low_min Q P q i hi h)))
+            (λ x. ap (λ k. joined N l i (Q i) k u) e ∙ ap (joined N l i (Q i) l) x ∙ joined_low N l i (Q i) (λ y. omega (arith, above Q P q i hi h)) ∙ ap Q (sym x) ∙ sym (target e ∙ now (ap (λ v. min v (Q v)) x ∙ low_min Q P q i hi h)))
             (λ nx. ⊎_elim
-            (λ y. ap (λ k. joined N l i (Q i) k u) e ∙ ap (joined N l i (Q i) l) y ∙ joined_second N l i (Q i) ∙ sym (q.back i hi) ∙ ap Q (sym y) ∙ sym (target e ∙ now (ap (λ v. min v (Q v)) y ∙ high_min Q P q i hi h)))
+            (λ y. ap (λ k. joined N l i (Q i) k u) e ∙ ap (joined N l i (Q i) l) y ∙ joined_high N l i (Q i) ∙ sym (q.back i hi) ∙ ap Q (sym y) ∙ sym (target e ∙ now (ap (λ v. min v (Q v)) y ∙ high_min Q P q i hi h)))
             (λ ny.
-            joined_rest N l i (Q i) j u (λ x. nx x.1) (λ x. ny x.1) ∙ ap (λ k. N k u) e ∙ level_now u hu ∙
+            joined_else N l i (Q i) j u (λ _ x. nx x) (λ _ x. ny x) ∙ ap (λ k. N k u) e ∙ level_now u hu ∙
             ap (λ b. cond b (Q u) (cond (eqb (P u) (Q u)) (P u) u)) (sym (gone_else Q P q i hi u hu (other_min Q P q i hi h u hu nx ny))) ∙ sym (target e))
             (cases_eq u (Q i)))
             (cases_eq u i)
@@ -276,3 +276,36 @@ module _ (k : KeptPairs) (l : ℕ) (P Q : ℕ → ℕ) (hl : l < 20) (ok : Sound
       sound = f.sound;
       choice = λ j u hj hu. f.choice j u hj hu ∙ ap (λ x. cond (eqb j l) x (entry k.choice j u)) (all_come P Q old_matching q u hu);
     }
+
+-- a turn of either loop
+module _ (k k₁ k₂ : KeptPairs) (l : ℕ) (P Q : ℕ → ℕ) (i : ℕ) (hl : l < 20) (hi : i < 256) (p : Involution P) where
+  pub forget_more : Forgotten k l P Q i k₁ → lost P Q i ≡ true →
+      (Sound k₁ → are_mates (entry k₁.choice) l i (P i) ≡ true → Holds k₂.choice (parted (entry k₁.choice) l i (P i)) × Sound k₂) →
+      Forgotten k l P Q (i + 1) k₂
+  forget_more f h removed =
+      let r = removed f.sound (forget_mates (entry k.choice) (entry k₁.choice) P Q p l i hl hi f.choice h) in
+      record {
+        sound = r.1;
+        choice = λ j u hj hu. r.0 j u hj hu ∙ forget_now (entry k.choice) (entry k₁.choice) P Q p l i hl hi f.choice h j u hj hu;
+      }
+
+  pub forget_pass : Forgotten k l P Q i k₁ → lost P Q i ≡ false → k₂ ≡ k₁ → Forgotten k l P Q (i + 1) k₂
+  forget_pass f h e =
+      subst (λ (m : KeptPairs). Forgotten k l P Q (i + 1) m) (sym e)
+      record { sound = f.sound; choice = forget_not (entry k.choice) (entry k₁.choice) P Q p l i hl hi f.choice h }
+
+  module _ (q : Involution Q) where
+    pub learn_more : Learnt k l P Q i k₁ → lost Q P i ≡ true →
+        (Sound k₁ → joinable (entry k₁.choice) l i (Q i) ≡ true → Holds k₂.choice (joined (entry k₁.choice) l i (Q i)) × Sound k₂) →
+        Learnt k l P Q (i + 1) k₂
+    learn_more f h added =
+        let r = added f.sound (learn_joinable (entry k.choice) (entry k₁.choice) P Q p q l i hl hi f.choice h) in
+        record {
+          sound = r.1;
+          choice = λ j u hj hu. r.0 j u hj hu ∙ learn_now (entry k.choice) (entry k₁.choice) P Q p q l i hl hi f.choice h j u hj hu;
+        }
+
+    pub learn_pass : Learnt k l P Q i k₁ → lost Q P i ≡ false → k₂ ≡ k₁ → Learnt k l P Q (i + 1) k₂
+    learn_pass f h e =
+        subst (λ (m : KeptPairs). Learnt k l P Q (i + 1) m) (sym e)
+        record { sound = f.sound; choice = learn_not (entry k.choice) (entry k₁.choice) P Q p q l i hl hi f.choice h }

@@ -5,3 +5,4 @@ pub mod Edits
 pub mod Bridge
 pub mod Counts
 pub mod Following
+pub mod Made

@@ -4,24 +4,21 @@ use Rattle.std.proofs.lemmas.Bool.{cases_eq, eqb-true, leb-true, eq-eqb, le-leb,
 use Rattle.choices.specs.declared.mates.Mates.{Mates}
 use Rattle.choices.specs.Mates.{entry, mate_shown}
 use Rattle.settling.specs.declared.kept_pairs.KeptPairs.{KeptPairs}
+use Rattle.settling.specs.declared.places.Place.{Place}
 use Rattle.settling.specs.Kept.{height_of, Symmetric, Paired}
-use Rattle.settling.specs.Steps.{SettledBut, Upto, Due, Under, Out, Or, PairedIn, HeightSet, Released, Wanted, Found, Coupled, Resettled}
+use Rattle.settling.specs.Steps.{SettledBut, Upto, Due, Out, Or, PairedIn, HeightSet, Released, Wanted, Found, Coupled, Resettled}
 use Rattle.settling.proofs.Tables.{shown_some, shown_none}
 use Rattle.settling.proofs.Steps.{which, weaken, pass, free_paired, join_paired}
 
 -- ## release
 
-pub released_choice : (r : Option (ℕ × ℕ)) (k k' : KeptPairs) (m : ℕ) → Released r k k' m → k'.choice ≡ k.choice
+pub released_choice : (r : Option Place) (k k' : KeptPairs) (m : ℕ) → Released r k k' m → k'.choice ≡ k.choice
 released_choice None k k' m h = ap (λ (q : KeptPairs). q.choice) h.0
 released_choice (Some p) k k' m h = h.2.choice
 
-released_lower : (r : Option (ℕ × ℕ)) (k k' : KeptPairs) (m : ℕ) → Released r k k' m → (v : ℕ) → height_of k' v ≤ height_of k v
+released_lower : (r : Option Place) (k k' : KeptPairs) (m : ℕ) → Released r k k' m → (v : ℕ) → height_of k' v ≤ height_of k v
 released_lower None k k' m h v = let e : height_of k' v ≡ height_of k v = ap (λ (q : KeptPairs). height_of q v) h.0 in omega arith
 released_lower (Some p) k k' m h v = h.2.lower v
-
-released_under : (r : Option (ℕ × ℕ)) (k k' : KeptPairs) (m l : ℕ) → Released r k k' m → height_of k m ≤ l → Under r l
-released_under None k k' m l h b = tt
-released_under (Some p) k k' m l h b = omega arith
 
 -- the release of a meter of the table, where the kept pairs are of the choice N
 module _
@@ -45,85 +42,76 @@ module _
             absurd (d.mated (shown_none N m l hm d.low (ap (λ (M : ℕ → ℕ → ℕ). mate_shown M m l) (sym is) ∙ h.1 l f)))
 
     -- the meter that is answered is the mate
-    its_mate : (x : ℕ × ℕ) → Released (Some x) k k' m → N x.1 m ≡ x.0
-    its_mate x h = sym (shown_some N m x.1 x.0 (ap (λ (M : ℕ → ℕ → ℕ). mate_shown M m x.1) (sym is) ∙ h.1)).2
+    its_mate : (x : Place) → Released (Some x) k k' m → N x.level m ≡ x.meter
+    its_mate x h = sym (shown_some N m x.level x.meter (ap (λ (M : ℕ → ℕ → ℕ). mate_shown M m x.level) (sym is) ∙ h.1)).2
 
-    mate_inside : (x : ℕ × ℕ) → Released (Some x) k k' m → x.0 < 256
-    mate_inside x h = omega (arith, its_mate x h, s.inside x.1 m (p m x.1 hm h.0).low hm)
+    mate_inside : (x : Place) → Released (Some x) k k' m → x.meter < 256
+    mate_inside x h = omega (arith, its_mate x h, s.inside x.level m (p m x.level hm h.0).low hm)
 
-    pub released_free : (r : Option (ℕ × ℕ)) → Released r k k' m → height_of k' m ≡ 0
+    pub released_free : (r : Option Place) → Released r k k' m → height_of k' m ≡ 0
     released_free None h = ap (λ (q : KeptPairs). height_of q m) h.0 ∙ was_free h
     released_free (Some x) h = h.2.free hm
 
-    pub released_paired : (r : Option (ℕ × ℕ)) → Released r k k' m → Paired N (height_of k')
+    pub released_paired : (r : Option Place) → Released r k k' m → Paired N (height_of k')
     released_paired None h = subst (λ (q : KeptPairs). Paired N (height_of q)) (sym h.0) p
     released_paired (Some x) h =
-        free_paired N (height_of k) (height_of k') m x.0 x.1 hm s p h.0 (its_mate x h)
+        free_paired N (height_of k) (height_of k') m x.meter x.level hm s p h.0 (its_mate x h)
         (h.2.free hm) (h.2.other_free (mate_inside x h)) h.2.rest
 
     -- what a release takes from another meter than its own is due
-    pub released_due : (r : Option (ℕ × ℕ)) → Released r k k' m → (v j : ℕ) → v ≢ m → j < height_of k v → (j < height_of k' v) ⊎ Due r v j
+    pub released_due : (r : Option Place) → Released r k k' m → (v j : ℕ) → v ≢ m → j < height_of k v → (j < height_of k' v) ⊎ Due r v j
     released_due None h v j ne b = let e : height_of k' v ≡ height_of k v = ap (λ (q : KeptPairs). height_of q v) h.0 in inl (omega arith)
     released_due (Some x) h v j ne b =
         ⊎_elim
-        (λ (q : v ≡ x.0).
-        inr (q, omega (arith, ap (height_of k) q, ap (height_of k) (its_mate x h), (p m x.1 hm h.0).level)))
+        (λ (q : v ≡ x.meter).
+        inr (q, omega (arith, ap (height_of k) q, ap (height_of k) (its_mate x h), (p m x.level hm h.0).level)))
         (λ q. inl (omega (arith, h.2.rest v ne q)))
-        (cases_eq v x.0)
+        (cases_eq v x.meter)
 
     -- of a kept pair of the level l, the mate is free too, and it alone is due
-    pub released_mate : (r : Option (ℕ × ℕ)) (l : ℕ) → Released r k k' m → height_of k m ≡ l + 1 →
+    pub released_mate : (r : Option Place) (l : ℕ) → Released r k k' m → height_of k m ≡ l + 1 →
         (height_of k' (N l m) ≡ 0) × ((v j : ℕ) → Due r v j → Upto (N l m) l v j)
     released_mate None l h e = absurd (omega (arith, was_free h))
     released_mate (Some x) l h e =
-        let z : x.1 ≡ l = omega (arith, h.0) in
-        let w : N l m ≡ x.0 = ap (λ i. N i m) (sym z) ∙ its_mate x h in (
+        let z : x.level ≡ l = omega (arith, h.0) in
+        let w : N l m ≡ x.meter = ap (λ i. N i m) (sym z) ∙ its_mate x h in (
           ap (height_of k') w ∙ h.2.other_free (mate_inside x h),
           λ v j d. (d.0 ∙ sym w, omega (arith, d.1)),
         )
 
 -- ## couple
 
-pub couple_under :
-    (k k₁ k₂ : KeptPairs) (a b l : ℕ) (x y : Option (ℕ × ℕ))
-    → Released x k k₁ a
-    → Released y k₁ k₂ b
-    → height_of k a ≤ l
-    → height_of k b ≤ l
-    → Under x l × Under y l
-couple_under k k₁ k₂ a b l x y r t p q = (
-  released_under x k k₁ a l r p,
-  released_under y k₁ k₂ b l t (omega (arith, released_lower x k k₁ a r b)),
-)
-
 module _
     (k k₁ k₂ k₃ k₄ : KeptPairs)
-    (a b l : ℕ)
-    (x y : Option (ℕ × ℕ))
+    (a : ℕ)
+    (mate : Place)
+    (x y : Option Place)
     (r : Released x k k₁ a)
-    (t : Released y k₁ k₂ b)
-    (f : HeightSet k₂ k₃ a (l + 1))
-    (g : HeightSet k₃ k₄ b (l + 1))
+    (t : Released y k₁ k₂ mate.meter)
+    (f : HeightSet k₂ k₃ a (mate.level + 1))
+    (g : HeightSet k₃ k₄ mate.meter (mate.level + 1))
   where
     pub couple_choice : k₄.choice ≡ k.choice
-    couple_choice = g.choice ∙ (f.choice ∙ (released_choice y k₁ k₂ b t ∙ released_choice x k k₁ a r))
+    couple_choice = g.choice ∙ (f.choice ∙ (released_choice y k₁ k₂ mate.meter t ∙ released_choice x k k₁ a r))
 
-    pub couple_coupled : Symmetric (entry k.choice) → PairedIn k → Wanted k a b l → Coupled k k₄ a b l x y
+    pub couple_coupled : Symmetric (entry k.choice) → PairedIn k → Wanted k a mate → Coupled k k₄ a mate x y
     couple_coupled s p w =
+        let b = mate.meter in
+        let l = mate.level in
         let N : ℕ → ℕ → ℕ = entry k.choice in
         let ha = w.inside in
-        let hb : b < 256 = omega (arith, w.chosen, s.inside l a w.low ha) in
+        let hb : b < 256 = omega (arith, w.chosen, s.inside l a mate.low ha) in
         let is : entry k₁.choice ≡ N = ap entry (released_choice x k k₁ a r) in
         let p₁ = released_paired N k k₁ a refl ha s p x r in
         let p₂ = released_paired N k₁ k₂ b is hb s p₁ y t in
         let ne : a ≢ b = λ e. w.other (sym e) in
-        let back : N l b ≡ a = ap (N l) w.chosen ∙ s.back l a w.low ha in
+        let back : N l b ≡ a = ap (N l) w.chosen ∙ s.back l a mate.low ha in
         let fa : height_of k₂ a ≡ 0 = omega (arith, released_free N k k₁ a refl ha s p x r, released_lower y k₁ k₂ b t a) in
         let la : height_of k₄ a ≡ l + 1 = g.rest a ne ∙ f.here ha in
         let lb : height_of k₄ b ≡ l + 1 = g.here hb in
         let rest : (v : ℕ) → v ≢ a → v ≢ b → height_of k₄ v ≡ height_of k₂ v = λ v p q. g.rest v q ∙ f.rest v p in
         let p₄ : Paired N (height_of k₄) =
-        join_paired N (height_of k₂) (height_of k₄) a b l w.low ne (sym w.chosen) back p₂ fa
+        join_paired N (height_of k₂) (height_of k₄) a b l mate.low ne (sym w.chosen) back p₂ fa
         (released_free N k₁ k₂ b is hb s p₁ y t) la lb rest
         in
         record {
@@ -148,28 +136,21 @@ module _
 
 -- ## resettle
 
--- nothing was found to do
-pub resettle_none : (k : KeptPairs) (m from : ℕ) → Found None k m from → Resettled k k (Upto m from)
-resettle_none k m from f =
-    record {
-      choice = refl;
-      settles = λ P s p t. (
-        p,
-        weaken (entry k.choice) (height_of k) (height_of k) (Or (Out P) (λ v l. (v ≡ m) × (l < 0))) (Out P) s
-            (λ v l hv. ⊎_elim inl (⊎_elim inr (λ q. absurd (omega (arith, q.1)))))
-            (pass (entry k.choice) (height_of k) (Out P) m 0 from s f t),
-      );
-    }
+-- how many levels are due
+abbrev pub depth : Option Place → ℕ
+depth None = 0
+depth (Some p) = p.level + 1
 
--- nothing was let go
-resettle_skip : (k : KeptPairs) → Resettled k k (Due None)
-resettle_skip k =
+-- nothing was found to do
+pub resettle_none : (k : KeptPairs) (m : Place) → Found None k m → Resettled k k (Due (Some m))
+resettle_none k m f =
     record {
       choice = refl;
       settles = λ P s p t. (
         p,
-        weaken (entry k.choice) (height_of k) (height_of k) (Or (Out P) (Due None)) (Out P) s
-            (λ v l hv. ⊎_elim inl (⊎_elim inr (λ q. absurd q))) t,
+        weaken (entry k.choice) (height_of k) (height_of k) (Or (Out P) (λ v l. (v ≡ m.meter) × (l < 0))) (Out P) s
+            (λ v l hv. ⊎_elim inl (⊎_elim inr (λ q. absurd (omega (arith, q.1)))))
+            (pass (entry k.choice) (height_of k) (Out P) m.meter 0 m.level s f t),
       );
     }
 
@@ -177,22 +158,22 @@ symmetric_at : (k k' : KeptPairs) → k'.choice ≡ k.choice → Symmetric (entr
 symmetric_at k k' e s = subst (λ (c : Mates). Symmetric (entry c)) (sym e) s
 
 -- what is due, as a test
-abbrev due : Option (ℕ × ℕ) → ℕ → ℕ → Bool
+abbrev due : Option Place → ℕ → ℕ → Bool
 due None v l = false
-due (Some p) v l = eqb v p.0 && leb l p.1
+due (Some p) v l = eqb v p.meter && leb l p.level
 
-due_true : (x : Option (ℕ × ℕ)) (v l : ℕ) → Due x v l → due x v l ≡ true
+due_true : (x : Option Place) (v l : ℕ) → Due x v l → due x v l ≡ true
 due_true None v l d = absurd d
-due_true (Some p) v l d = and_from (eqb v p.0) (leb l p.1) (eq-eqb v p.0 d.0) (le-leb l p.1 d.1)
+due_true (Some p) v l d = and_from (eqb v p.meter) (leb l p.level) (eq-eqb v p.meter d.0) (le-leb l p.level d.1)
 
-true_due : (x : Option (ℕ × ℕ)) (v l : ℕ) → due x v l ≡ true → Due x v l
+true_due : (x : Option Place) (v l : ℕ) → due x v l ≡ true → Due x v l
 true_due None v l d = let z : ◌≡◌ {A = ℕ} 0 1 = cc in absurd (omega arith)
 true_due (Some p) v l d =
-    let q = and_parts (eqb v p.0) (leb l p.1) d in (eqb-true v p.0 q.0, leb-true l p.1 q.1)
+    let q = and_parts (eqb v p.meter) (leb l p.level) d in (eqb-true v p.meter q.0, leb-true l p.level q.1)
 
 -- one after the other
 pub resettle_both :
-    (k k' k'' : KeptPairs) (x y : Option (ℕ × ℕ))
+    (k k' k'' : KeptPairs) (x y : Option Place)
     → Resettled k k' (Due x)
     → Resettled k' k'' (Due y)
     → Resettled k k'' (Or (Due x) (Due y))
@@ -224,20 +205,20 @@ resettle_both k k' k'' x y r t =
 
 -- a pair was found and made, and what it let go is settled
 pub resettle_some :
-    (k k₁ k₂ : KeptPairs) (m mate l from : ℕ) (x y : Option (ℕ × ℕ))
-    → Found (Some (mate, l)) k m from
+    (k k₁ k₂ : KeptPairs) (m mate : Place) (x y : Option Place)
+    → Found (Some mate) k m
     → k₁.choice ≡ k.choice
-    → (Symmetric (entry k.choice) → PairedIn k → Wanted k m mate l → Coupled k k₁ m mate l x y)
+    → (Symmetric (entry k.choice) → PairedIn k → Wanted k m.meter mate → Coupled k k₁ m.meter mate x y)
     → Resettled k₁ k₂ (Or (Due x) (Due y))
-    → Resettled k k₂ (Upto m from)
-resettle_some k k₁ k₂ m mate l from x y f e c r =
+    → Resettled k k₂ (Due (Some m))
+resettle_some k k₁ k₂ m mate x y f e c r =
     record {
       choice = r.choice ∙ e;
       settles = λ P s p g.
           let d = c s p f.1 in
-          let left = pass (entry k.choice) (height_of k) (Out P) m (l + 1) from s f.2 g in
+          let left = pass (entry k.choice) (height_of k) (Out P) m.meter (mate.level + 1) m.level s f.2 g in
           let now : SettledBut (entry k.choice) (height_of k₁) (Or (Out P) (Or (Due x) (Due y))) =
-          weaken (entry k.choice) (height_of k) (height_of k₁) (Or (Out P) (λ v i. (v ≡ m) × (i < l + 1)))
+          weaken (entry k.choice) (height_of k) (height_of k₁) (Or (Out P) (λ v i. (v ≡ m.meter) × (i < mate.level + 1)))
           (Or (Out P) (Or (Due x) (Due y))) s
           (λ v i hv.
           ⊎_elim
@@ -250,19 +231,3 @@ resettle_some k k₁ k₂ m mate l from x y f e c r =
           r.settles P (symmetric_at k k₁ e s) d.paired
           (subst (λ (c : Mates). SettledBut (entry c) (height_of k₁) (Or (Out P) (Or (Due x) (Due y)))) (sym e) now);
     }
-
--- either way of `if let Some((other, below)) = x { self.resettle(other, below); }`
-pub due_none : (k k' : KeptPairs) (x : Option (ℕ × ℕ)) → x ≡ None → k' ≡ k → Resettled k k' (Due x)
-due_none k k' x e f =
-    subst (λ (q : KeptPairs). Resettled k q (Due x)) (sym f)
-    (subst (λ (z : Option (ℕ × ℕ)). Resettled k k (Due z)) (sym e) (resettle_skip k))
-
-pub due_some :
-    (k k' k'' : KeptPairs) (x : Option (ℕ × ℕ)) (p : ℕ × ℕ)
-    → x ≡ Some p
-    → k'' ≡ k'
-    → Resettled k k' (Upto p.0 p.1)
-    → Resettled k k'' (Due x)
-due_some k k' k'' x p e f r =
-    subst (λ (q : KeptPairs). Resettled k q (Due x)) (sym f)
-    (subst (λ (z : Option (ℕ × ℕ)). Resettled k k' (Due z)) (sym e) r)

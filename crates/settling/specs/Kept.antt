@@ -1,5 +1,5 @@
 -- A copy of a choice with the pairs that are kept of it: what it answers, and what holds of it from call to call.
-use Rattle.std.specs.Prelude.{◌≡◌, ℕ, ◌+◌, ◌-◌, ◌<◌, Bool, cond, not, ◌&&◌, ◌≢◌, ◌⊎◌, List, None, Option, ◌==◌, slice_index}
+use Rattle.std.specs.Prelude.{◌≡◌, ℕ, ◌+◌, ◌-◌, ◌<◌, Bool, cond, not, ◌&&◌, ◌≢◌, ◌⊎◌, List, Some, None, Option, ◌==◌, slice_index_or}
 use Rattle.proposals.specs.declared.proposals.Proposal.{Proposal}
 use Rattle.matching.specs.Lists.{◌∈◌}
 use Rattle.matching.specs.Matching.{Choice}
@@ -9,9 +9,18 @@ use Rattle.choices.specs.Mates.{entry, mate_shown, in_table, Holds, alone}
 use Rattle.choices.specs.Showing.{Shows}
 use Rattle.settling.specs.declared.kept_pairs.KeptPairs.{KeptPairs}
 
+-- the level of the meter's kept pair, if it is in one
+abbrev pub kept_at : KeptPairs → ℕ → Option ℕ
+kept_at k v = slice_index_or k.levels v None
+
+-- 0 for no level, else one more than the level
+abbrev pub height : Option ℕ → ℕ
+height None = 0
+height (Some l) = l + 1
+
 -- 0 where the meter is in no kept pair, else one more than that pair's level
 abbrev pub height_of : KeptPairs → ℕ → ℕ
-height_of k v = slice_index k.heights v
+height_of k v = height (kept_at k v)
 
 -- a kept pair has a meter and its mate at the level of its height
 abbrev pub partner_shown : KeptPairs → ℕ → Option ℕ

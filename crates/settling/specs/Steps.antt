@@ -3,6 +3,7 @@
 use Rattle.std.specs.Prelude.{◌≡◌, ℕ, ◌+◌, ◌<◌, ◌≤◌, Bool, true, ◌≢◌, ◌⊎◌, Some, None, Option}
 use Rattle.choices.specs.Mates.{entry, mate_shown}
 use Rattle.settling.specs.declared.kept_pairs.KeptPairs.{KeptPairs}
+use Rattle.settling.specs.declared.places.Place.{Place}
 use Rattle.settling.specs.Kept.{height_of, Symmetric, Paired}
 
 -- at v nothing is left to do for level l: its kept pair is of that level or a higher one, or P leaves it out
@@ -22,14 +23,14 @@ abbrev pub Upto : ℕ → ℕ → ℕ → ℕ → Type 0
 Upto m k v l = (v ≡ m) × (l ≤ k)
 
 -- the levels of the meter that was let go, up to the level that it was let go from
-abbrev pub Due : Option (ℕ × ℕ) → ℕ → ℕ → Type 0
+abbrev pub Due : Option Place → ℕ → ℕ → Type 0
 Due None v l = ⊥
-Due (Some p) v l = Upto p.0 p.1 v l
+Due (Some p) v l = Upto p.meter p.level v l
 
 -- the level that it was let go from is below l
-abbrev pub Under : Option (ℕ × ℕ) → ℕ → Type 0
+abbrev pub Under : Option Place → ℕ → Type 0
 Under None l = Unit {0}
-Under (Some p) l = p.1 < l
+Under (Some p) l = p.level < l
 
 -- what a test leaves out
 abbrev pub Out : (ℕ → ℕ → Bool) → ℕ → ℕ → Type 0
@@ -61,28 +62,27 @@ pub record Freed (k k' : KeptPairs) (m x : ℕ) : Type 0 where
   pub rest : (v : ℕ) → v ≢ m → v ≢ x → height_of k' v ≡ height_of k v
 
 -- what `release` answers and does: none for a meter in no kept pair
-abbrev pub Released : Option (ℕ × ℕ) → KeptPairs → KeptPairs → ℕ → Type 0
+abbrev pub Released : Option Place → KeptPairs → KeptPairs → ℕ → Type 0
 Released None k k' m = (k' ≡ k) × ((l : ℕ) → height_of k m ≡ l + 1 → mate_shown (entry k.choice) m l ≡ None)
-Released (Some p) k k' m = (height_of k m ≡ p.1 + 1) × (mate_shown (entry k.choice) m p.1 ≡ Some p.0) × Freed k k' m p.0
+Released (Some p) k k' m = (height_of k m ≡ p.level + 1) × (mate_shown (entry k.choice) m p.level ≡ Some p.meter) × Freed k k' m p.meter
 
--- b is the mate of a at the level l, and both are free or in pairs of lower levels
-pub record Wanted (k : KeptPairs) (a b l : ℕ) : Type 0 where
-  pub low : l < 20
+-- b is the mate of a at its level, and both are free or in pairs of lower levels
+pub record Wanted (k : KeptPairs) (a : ℕ) (b : Place) : Type 0 where
   pub inside : a < 256
-  pub chosen : b ≡ entry k.choice l a
-  pub other : b ≢ a
-  pub mine : height_of k a ≤ l
-  pub theirs : height_of k b ≤ l
+  pub chosen : b.meter ≡ entry k.choice b.level a
+  pub other : b.meter ≢ a
+  pub mine : height_of k a ≤ b.level
+  pub theirs : height_of k b.meter ≤ b.level
 
--- what `wanted` answers, of the levels up to `from`
-abbrev pub Found : Option (ℕ × ℕ) → KeptPairs → ℕ → ℕ → Type 0
-Found None k m from = Passed (entry k.choice) (height_of k) m 0 from
-Found (Some p) k m from = (p.1 ≤ from) × Wanted k m p.0 p.1 × Passed (entry k.choice) (height_of k) m (p.1 + 1) from
+-- what `wanted` answers, of the levels of m up to the given one
+abbrev pub Found : Option Place → KeptPairs → Place → Type 0
+Found None k m = Passed (entry k.choice) (height_of k) m.meter 0 m.level
+Found (Some p) k m = (p.level ≤ m.level) × Wanted k m.meter p × Passed (entry k.choice) (height_of k) m.meter (p.level + 1) m.level
 
--- a and b are a kept pair of the level l, and what that undoes at other meters is due again
-pub record Coupled (k k' : KeptPairs) (a b l : ℕ) (x y : Option (ℕ × ℕ)) : Type 0 where
+-- a and b are a kept pair of b's level, and what that undoes at other meters is due again
+pub record Coupled (k k' : KeptPairs) (a : ℕ) (b : Place) (x y : Option Place) : Type 0 where
   pub paired : PairedIn k'
-  pub level : height_of k' a ≡ l + 1
+  pub level : height_of k' a ≡ b.level + 1
   pub due : (v j : ℕ) → v < 256 → j < height_of k v → (j < height_of k' v) ⊎ (Due x v j ⊎ Due y v j)
 
 -- what D leaves out of the settled pairs is settled

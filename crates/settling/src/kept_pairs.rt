@@ -1,27 +1,23 @@
-ghost use Rattle.std.specs.Prelude.{◌≡◌, ◌+◌, ◌<◌, ◌≤◌, true, false, List};
+ghost use Rattle.std.specs.Prelude.{◌≡◌, ◌+◌, ◌<◌, ◌≤◌, true, false, nat_lt, List};
 ghost use Rattle.std.specs.Option.{option_map};
 ghost use Rattle.proposals.specs.declared.proposals.Proposal.{Proposal};
 ghost use Rattle.matching.specs.Matching.{kept};
 ghost use Rattle.matching.specs.Canonical.{partner_in};
 ghost use Rattle.matching.specs.Meanings.{ratio};
 ghost use Rattle.choices.specs.Mates.{entry, mate_shown, joined, parted, Holds};
-ghost use Rattle.settling.specs.Kept.{height_of, partner_shown, joinable, are_mates, Symmetric, Sound, Begun, Copies};
-ghost use Rattle.settling.specs.Steps.{Under, Upto, PairedIn, HeightSet, Released, Wanted, Found, Coupled, Resettled};
+ghost use Rattle.settling.specs.Kept.{height, kept_at, height_of, partner_shown, joinable, are_mates, Symmetric, Sound, Begun, Copies};
+ghost use Rattle.settling.specs.Steps.{Due, Under, PairedIn, HeightSet, Released, Wanted, Found, Coupled, Resettled};
 
+use crate::places::Place;
 use choices::Mates;
-
-/// How many levels there are.
-const LEVELS: u32 = 20;
-
-/// The most meters that a group has.
-const METERS: u32 = 256;
+use proposals::{LEVELS, METERS};
 
 /// A copy of a choice, and the pairs that static combining keeps of it.
 #[derive(Drop)]
 pub struct KeptPairs {
     choice: Mates,
-    /// For each meter 0 where it is in no kept pair, else that pair's level plus one. Its partner is its mate at that level.
-    heights: [u8; 256],
+    /// For each meter the level of its kept pair, if it is in one. Its partner is its mate at that level.
+    levels: [Option<u8>; METERS as usize],
 }
 
 impl KeptPairs {
@@ -31,7 +27,7 @@ impl KeptPairs {
     {
         KeptPairs {
             choice: Mates::new(),
-            heights: [0u8; 256],
+            levels: [None; METERS as usize],
         }
     }
 
@@ -47,98 +43,91 @@ impl KeptPairs {
         ensures shown { result ≡ partner_shown self.now meter }
         ensures kept { (C : List Proposal) → Copies self.now C → result ≡ option_map (λ x. x.0) (partner_in (kept ratio C) meter) }
     {
-        match self.height(meter) {
-            0 => None,
-            height => self.choice.mate(meter, height - 1),
-        }
+        self.choice.mate(meter, self.kept_level(meter)?)
     }
 
-    /// The level of a meter's kept pair plus one, or 0 where it is in none.
-    fn height(&self, meter: u32) -> u32
-        ensures { result ≡ height_of self.now meter }
+    /// The level of a meter's kept pair, if it is in one.
+    fn kept_level(&self, meter: u32) -> Option<u32>
+        ensures { result ≡ kept_at self.now meter }
     {
-        match self.heights.get(meter as usize) {
-            Some(height) => u32::from(*height),
-            None => 0,
-        }
+        let level = *self.levels.get(meter as usize)?;
+        level.map(u32::from)
     }
 
-    /// Writes a meter's height.
-    fn set_height(&mut self, meter: u32, height: u8)
-        ensures { HeightSet self.old self.new meter height }
+    /// Whether a meter is in a kept pair of a level or of a higher one.
+    fn is_kept_from(&self, meter: u32, level: u32) -> bool
+        ensures { result ≡ nat_lt level (height_of self.now meter) }
+    {
+        self.kept_level(meter).is_some_and(|kept| kept >= level)
+    }
+
+    /// Writes the level of a meter's kept pair, or that it is in none.
+    fn set_level(&mut self, meter: u32, level: Option<u8>)
+        ensures { HeightSet self.old self.new meter (height level) }
     {
         if meter < METERS {
-            self.heights[meter as usize] = height;
+            self.levels[meter as usize] = level;
         }
     }
 
-    /// Ends the kept pair of a meter, if there is one: answers its other meter and its level.
-    fn release(&mut self, meter: u32) -> Option<(u32, u32)>
+    /// Ends the kept pair of a meter, if there is one: answers its other meter, at its level.
+    fn release(&mut self, meter: u32) -> Option<Place>
         ensures { Released result self.old self.new meter }
     {
-        let height = self.height(meter);
-        if height == 0 {
-            return None;
-        }
-        let Some(other) = self.choice.mate(meter, height - 1) else {
-            return None;
-        };
-        self.set_height(meter, 0);
-        self.set_height(other, 0);
-        Some((other, height - 1))
+        let level = self.kept_level(meter)?;
+        let other = self.choice.mate(meter, level)?;
+        self.set_level(meter, None);
+        self.set_level(other, None);
+        Some(Place {
+            meter: other,
+            level,
+        })
     }
 
-    /// Looks from a level downward for one at which the meter's mate is free or in a pair of a lower level.
-    fn wanted(&self, meter: u32, from: u32) -> Option<(u32, u32)>
-        ensures { Found result self.now meter from }
+    /// Looks from a meter's level downward for one at which its mate is free or in a pair of a lower level.
+    fn wanted(&self, due: Place) -> Option<Place>
+        ensures { Found result self.now due }
     {
-        for level in (0..from.min(LEVELS - 1) + 1).rev() {
-            if self.height(meter) > level {
+        for level in (0..=due.level).rev() {
+            if self.is_kept_from(due.meter, level) {
                 return None;
             }
-            if let Some(mate) = self.choice.mate(meter, level) {
-                if self.height(mate) <= level {
-                    return Some((mate, level));
-                }
+            if let Some(mate) = self.choice.mate(due.meter, level)
+                && !self.is_kept_from(mate, level)
+            {
+                return Some(Place { meter: mate, level });
             }
         }
         None
     }
 
     /// Ends the kept pairs of two meters, and keeps the pair of the two at a level: answers what each of them let go.
-    fn couple(
-        &mut self,
-        meter: u32,
-        mate: u32,
-        level: u32,
-    ) -> (Option<(u32, u32)>, Option<(u32, u32)>)
+    fn couple(&mut self, meter: u32, mate: Place) -> (Option<Place>, Option<Place>)
         ensures choice { self.new.choice ≡ self.old.choice }
-        ensures under { height_of self.old meter ≤ level → height_of self.old mate ≤ level
-            → Under result.0 level × Under result.1 level }
-        ensures coupled { Symmetric (entry self.old.choice) → PairedIn self.old → Wanted self.old meter mate level
-            → Coupled self.old self.new meter mate level result.0 result.1 }
+        ensures under { height_of self.old meter ≤ mate.level → height_of self.old mate.meter ≤ mate.level
+            → Under result.0 mate.level × Under result.1 mate.level }
+        ensures coupled { Symmetric (entry self.old.choice) → PairedIn self.old → Wanted self.old meter mate
+            → Coupled self.old self.new meter mate result.0 result.1 }
     {
         let first = self.release(meter);
-        let second = self.release(mate);
-        if level < LEVELS {
-            self.set_height(meter, level as u8 + 1);
-            self.set_height(mate, level as u8 + 1);
-        }
+        let second = self.release(mate.meter);
+        let level = Some(mate.level as u8);
+        self.set_level(meter, level);
+        self.set_level(mate.meter, level);
         (first, second)
     }
 
-    /// Settles a meter at the levels from the given one down, and then the meters that this lets go.
-    fn resettle(&mut self, meter: u32, from: u32)
-        ensures { Resettled self.old self.new (Upto meter from) }
+    /// Settles a meter, if one is due, at the levels from the given one down, and then the meters that this lets go.
+    fn resettle(&mut self, due: Option<Place>)
+        ensures { Resettled self.old self.new (Due due) }
     {
-        if let Some((mate, level)) = self.wanted(meter, from) {
-            let (first, second) = self.couple(meter, mate, level);
-            if let Some((other, below)) = first {
-                self.resettle(other, below);
-            }
-            if let Some((other, below)) = second {
-                self.resettle(other, below);
-            }
+        let Some(due) = due else {
+            return;
+        };
+        if let Some(mate) = self.wanted(due) {
+            let (first, second) = self.couple(due.meter, mate);
+            self.resettle(first);
+            self.resettle(second);
         }
     }
 
@@ -146,11 +135,15 @@ impl KeptPairs {
     fn can_join(&self, a: u32, b: u32, level: u32) -> bool
         ensures { result ≡ joinable (entry self.now.choice) level a b }
     {
-        if a == b || a >= METERS || b >= METERS || level >= LEVELS {
-            return false;
-        }
-        self.choice.is_free(a, level) && self.choice.is_free(b, level)
+        a != b
+            && a < METERS
+            && b < METERS
+            && level < LEVELS
+            && self.choice.is_free(a, level)
+            && self.choice.is_free(b, level)
     }
+
+    // `add` and `remove` take plain numbers: a type with their bounds would ask more of callers.
 
     /// Enters a pair into the copy at a level, and settles. Does nothing unless both meters are free there.
     pub fn add(&mut self, a: u32, b: u32, level: u32)
@@ -160,7 +153,7 @@ impl KeptPairs {
     {
         if self.can_join(a, b, level) {
             self.choice.join(a, b, level);
-            self.resettle(a, level);
+            self.resettle(Some(Place { meter: a, level }));
         }
     }
 
@@ -180,12 +173,12 @@ impl KeptPairs {
         if !self.are_mates(a, b, level) {
             return;
         }
-        if self.height(a) == level + 1 {
+        if self.kept_level(a) == Some(level) {
             self.release(a);
         }
         self.choice.part(a, b, level);
-        self.resettle(a, level);
-        self.resettle(b, level);
+        self.resettle(Some(Place { meter: a, level }));
+        self.resettle(Some(Place { meter: b, level }));
     }
 }
 

@@ -2,7 +2,8 @@
 #![tactic(auto)]
 
 mod kept_pairs;
+mod places;
 mod rows;
 
 pub use kept_pairs::KeptPairs;
-pub use rows::count_differing;
+pub use rows::{Row, count_differing, row_of};

@@ -1,14 +1,13 @@
-use Rattle.std.proofs.Common.{sym, ◌∙◌}
-use Rattle.choices.proofs.Scans.{first_here, first_later, first_end}
+use Rattle.std.proofs.Common.{rules, tests}
+use Rattle.std.proofs.lemmas.Iterator.{YieldsList-from_slice}
+use Rattle.std.proofs.lemmas.Iterator.Consumers.{YieldsList-from_copied}
+use Rattle.std.proofs.lemmas.Iterator.Search.{find_from_yields_List}
+use Rattle.choices.specs.Mates.{entry, offered}
+use Rattle.choices.proofs.Scans.{first_find}
 use Rattle.choices.proofs.mates.Mates.first_offer.Goals as goal
 
-pub returns-then-offers : goal.returns-then-offers
-returns-then-offers c =
-    sym (c.loop-proposal.invariant ∙ first_here _ c.args.opened.now c.loop-proposal.proposal-index _ c.loop-proposal-test.true c.proposal-item.is (sym c.if-offers.ensures))
-
-pub loop-proposal-preserved : goal.loop-proposal-preserved
-loop-proposal-preserved c =
-    c.loop-proposal.invariant ∙ first_later _ c.args.opened.now c.loop-proposal.proposal-index _ c.loop-proposal-test.true c.proposal-item.is (sym c.if-offers.ensures)
-
 pub returns : goal.returns
-returns c = sym (c.loop-proposal.invariant ∙ first_end _ c.args.opened.now c.loop-proposal.proposal-index c.loop-proposal-test.false)
+returns c =
+    let test = offered (entry c.args.self.now) c.args.level c.args.meter in
+    first_find test c.args.opened.now c.find.result
+    (find_from_yields_List test _ _ c.find.result c.find.ensures.ran (YieldsList-from_copied (YieldsList-from_slice c.args.opened.now cc)) (λ x b q k. search (rules, tests)))
