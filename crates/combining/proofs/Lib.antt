@@ -1,2 +1,3 @@
 pub mod Partners
 pub mod Steps
+pub mod Reading

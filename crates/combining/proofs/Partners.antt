@@ -1,23 +1,20 @@
 -- Lemmas on the partners that a row shows.
-use Rattle.std.proofs.Common.{◌≡◌, ℕ, ◌≤◌, true, false, List, ◌∷◌, ◌++◌, length, take, drop, Some, None, Option, unwrap_or, sym, refl, ap, ◌∙◌, inl, inr, arith}
+use Rattle.std.proofs.Common.{◌≡◌, ℕ, true, false, List, ◌∷◌, Some, None, Option, unwrap_or, sym, refl, ap, ◌∙◌, inl, inr, arith}
 use Rattle.std.specs.Option.{option_map}
-use Rattle.std.proofs.lemmas.List.{take-append-drop, length-take-le, get_or-take}
-use Rattle.std.proofs.lemmas.List.FromFn.{fill_by_all}
 use Rattle.std.proofs.lemmas.Bool.{both_ways, cond-true, cond-false}
 use Rattle.proposals.specs.declared.proposals.Proposal.{Proposal}
 use Rattle.matching.specs.Lists.{◌∈◌, Alike, first_of}
 use Rattle.matching.specs.Matching.{has, other, Pairing}
 use Rattle.matching.proofs.Lists.{first_in, first_none, first_only, first_nothing}
 use Rattle.matching.proofs.Pairs.{has_cases, other_low, other_high, one_pair}
-use Rattle.combining.specs.Partners.{partner_or, partners}
-use Rattle.combining.specs.Steps.{Shows}
+use Rattle.combining.specs.Partners.{partner_or}
 
 -- the partner, once the first pair that has the meter is found
 answer : ℕ → Option Proposal → ℕ
 answer v found = unwrap_or (option_map (λ (a : ℕ × ℕ). a.0) (option_map (λ (p : Proposal). (other p v, p.saving)) found)) v
 
 module _ (K : List Proposal) (v : ℕ) where
-  partner_is : (p : Proposal) → Pairing K → p ∈ K → has p v ≡ true → partner_or K v ≡ other p v
+  pub partner_is : (p : Proposal) → Pairing K → p ∈ K → has p v ≡ true → partner_or K v ≡ other p v
   unfolding answer
   partner_is p h m e = ap (answer v) (first_only (λ q. has q v) K p m e (λ q n k. one_pair K q p v h n m k e))
 
@@ -64,9 +61,3 @@ same_partner A B v ha hb alike = go (first_of (λ q. has q v) A) refl
     go (Some p) e =
         let f = first_in (λ q. has q v) A p e in
         partner_is A v p ha f.0 f.1 ∙ sym (partner_is B v p hb ((alike p).0 f.0) f.1)
-
--- a row that shows the partners in K begins with them
-pub row_is : (n : ℕ) (K : List Proposal) (row : List ℕ) → n ≤ length row → Shows n K row → row ≡ partners K n ++ drop n row
-row_is n K row le s =
-    let front = fill_by_all (partner_or K) (take n row) n 0 (length-take-le n row le) (λ v h. get_or-take n row v 0 h ∙ s v h) in
-    sym (take-append-drop n row) ∙ ap (λ (xs : List ℕ). xs ++ drop n row) front

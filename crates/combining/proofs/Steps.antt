@@ -1,5 +1,6 @@
 -- Each step of combining.
-use Rattle.std.proofs.Common.{◌≡◌, ℕ, ◌+◌, ◌<◌, ◌≤◌, Bool, true, false, cond, ◌&&◌, eqb, ◌⊎◌, List, [], ◌∷◌, ◌++◌, length, get_or, drop, set, Some, sym, refl, ap, ◌∙◌, subst, inl, inr, arith, length-set, get_or-set_other, get_or-set_same, drop-set-lt}
+use Rattle.std.proofs.Common.{◌≡◌, ℕ, ◌+◌, ◌<◌, ◌≤◌, Bool, true, false, cond, ◌&&◌, eqb, ◌⊎◌, List, [], ◌∷◌, length, get_or, set, Some, sym, refl, ap, ◌∙◌, subst, inl, inr, arith, length-set, get_or-set_other, get_or-set_same}
+use Rattle.std.proofs.lemmas.List.FromFn.{fill_by_all}
 use Rattle.std.proofs.lemmas.Bool.{cases_Bool, cases_eq, eqb-true, eqb-false}
 use Rattle.proposals.specs.declared.proposals.Proposal.{Proposal}
 use Rattle.proposals.proofs.Ladder.{level_bound}
@@ -12,7 +13,7 @@ use Rattle.matching.proofs.Pairs.{has_cases, has_low, has_high, other_low, other
 use Rattle.matching.proofs.Telling.{telling}
 use Rattle.combining.specs.Partners.{partner_or, partners}
 use Rattle.combining.specs.Steps.{KeptTo, Shows, Reached, DownTo, with_pair}
-use Rattle.combining.proofs.Partners.{partner_some, in_no_pair, partner_in_first, partner_in_rest, same_partner, row_is}
+use Rattle.combining.proofs.Partners.{partner_some, in_no_pair, partner_in_first, partner_in_rest, same_partner}
 
 -- a further pair stands in the way too
 way_more : (K : List Proposal) (p q : Proposal) → (p ∈ K) ⊎ InTheWay ratio K p → (p ∈ (q ∷ K)) ⊎ InTheWay ratio (q ∷ K) p
@@ -73,7 +74,7 @@ module _ (C : List Proposal) (l k : ℕ) (K : List Proposal) (g : KeptTo C l k K
         ]
 
 -- a meter and its mate above it are the lower and the higher meter of their pair
-mates_in_order : (p : Proposal) (v w : ℕ) → has p v ≡ true → other p v ≡ w → v < w → (p.low ≡ v) × (p.high ≡ w)
+pub mates_in_order : (p : Proposal) (v w : ℕ) → has p v ≡ true → other p v ≡ w → v < w → (p.low ≡ v) × (p.high ≡ w)
 mates_in_order p v w h e lt =
     elim (has_cases p v h) [
       | inl x ↦ (x, sym (other_low p) ∙ ap (other p) x ∙ e)
@@ -182,14 +183,6 @@ module _ (m : Meaning) (lawful : Lawful m) (l : ℕ) (row : List ℕ) where
       (subst (λ (v : ℕ). Reached m l (v + 1) (with_pair row p.low p.high)) low
       (looked_at p i at le (subst (λ (v : ℕ). Reached m l v row) (sym low) h)))
 
--- a pair within the first places leaves the rest
-pub drop_with_pair : (n : ℕ) (row : List ℕ) (a b : ℕ) → a < n → b < n → drop n (with_pair row a b) ≡ drop n row
-drop_with_pair n row a b x y =
-    elim (cases_Bool (eqb (get_or row a 0) a && eqb (get_or row b 0) b)) [
-      | inl e ↦ rw e (drop-set-lt n (set row a b) b a y ∙ drop-set-lt n row a b x)
-      | inr e ↦ rw e
-    ]
-
 -- before the highest level nothing is kept
 pub begun : (m : Meaning) (l : ℕ) (row : List ℕ) → levels ≤ l → ((v : ℕ) → v < m.size → get_or row v 0 ≡ v) → DownTo m l row
 begun m l row le own = ([], none, own)
@@ -223,11 +216,10 @@ descended m l row lawful (K, g, s) = (K, lower, s)
         }
 
 -- at the end the row shows what static combining keeps
-pub ended : (m : Meaning) (before row : List ℕ) → Lawful m → m.size ≤ length row → drop m.size row ≡ drop m.size before → DownTo m 0 row →
-    row ≡ partners (kept_of m) m.size ++ drop m.size before
-ended m before row lawful le rest (K, g, s) =
-    row_is m.size (kept_of m) row le (λ v h. s v h ∙ same_partner K (kept_of m) v g.pairing settled_kept.pairing (kept_alike ratio m.chosen K choice settled)) ∙
-    ap (λ (xs : List ℕ). partners (kept_of m) m.size ++ xs) rest
+pub ended : (m : Meaning) (row : List ℕ) → Lawful m → length row ≡ m.size → DownTo m 0 row → row ≡ partners (kept_of m) m.size
+ended m row lawful long (K, g, s) =
+    fill_by_all (partner_or (kept_of m)) row m.size 0 long
+    (λ v h. s v h ∙ same_partner K (kept_of m) v g.pairing settled_kept.pairing (kept_alike ratio m.chosen K choice settled))
   where
     choice : Choice ratio m.chosen
     choice = lawful.maximal.choice

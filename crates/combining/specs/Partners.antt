@@ -1,11 +1,12 @@
 -- What combining writes into a row, and why it refuses one.
-use Rattle.std.specs.Prelude.{◌≡◌, ℕ, ◌<◌, ◌≤◌, List, ◌++◌, map, length, drop, Result, MatchResult}
+use Rattle.std.specs.Prelude.{◌≡◌, ℕ, ◌<◌, ◌≤◌, List, ◌++◌, map, length, drop, Option, Result, MatchResult, ◌==◌}
 use Rattle.std.specs.List.{range_with_len}
 use Rattle.std.specs.Option.{option_map, unwrap_or}
 use Rattle.proposals.specs.declared.proposals.Proposal.{Proposal}
 use Rattle.proposals.specs.declared.refusals.Refusal.{Refusal}
 use Rattle.proposals.specs.declared.refusals.Reason.TheVariants.{RowTooShort}
 use Rattle.proposals.specs.declared.refusals.Layer.TheVariants as layer
+use Rattle.matching.specs.Lists.{first_of}
 use Rattle.matching.specs.Canonical.{partner_in}
 use Rattle.matching.specs.Meanings.{Meaning, kept_of}
 
@@ -16,6 +17,14 @@ partner_or K v = unwrap_or (option_map (λ found. found.0) (partner_in K v)) v
 -- the partners of the n meters, in their order
 abbrev pub partners : List Proposal → ℕ → List ℕ
 partners K n = map (partner_or K) (range_with_len 0 n)
+
+-- a row that begins with the partners of all meters, as combining writes it
+abbrev pub BeginsWithPartners : Meaning → List ℕ → Type 0
+BeginsWithPartners m row = (rest : List ℕ) × (row ≡ partners (kept_of m) m.size ++ rest)
+
+-- the one of K whose lower meter is v
+abbrev pub at_lower : List Proposal → ℕ → Option Proposal
+at_lower K v = first_of (λ p. p.low == v) K
 
 -- the row is shorter than what would be written
 abbrev pub short_row : Refusal

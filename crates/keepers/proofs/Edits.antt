@@ -6,7 +6,7 @@ use Rattle.std.proofs.lemmas.Bool.Decides.{nat_tests}
 use Rattle.proposals.specs.declared.proposals.Proposal.{Proposal}
 use Rattle.matching.specs.Lists.{first_of}
 use Rattle.matching.specs.Canonical.{before, Ascending, insert, joins, is_for, without}
-use Rattle.matching.proofs.Lists.{any_true, kept_by_all}
+use Rattle.matching.proofs.Lists.{kept_by_all}
 use Rattle.keepers.specs.Tables.{at, Lower, Higher, Stands, Gap}
 use Rattle.keepers.proofs.Places.{at_in}
 
@@ -32,9 +32,6 @@ first_at (p ∷ ps) a b zero up s = cond-true (joins a b p) _ _ s.here
 first_at (p ∷ ps) a b (suc i) up s =
     cond-false (joins a b p) _ _ (apart_before p (at ps i) a b (up.0 (at ps i) (at_in ps i (omega (arith, s.within)))) s.here) ∙
     first_at ps a b i up.1 (record { within = omega (arith, s.within); here = s.here })
-
-pub stands_for : (ps : List Proposal) (a b i : ℕ) → Stands ps a b i → is_for a b ps ≡ true
-stands_for ps a b i s = any_true (joins a b) ps (at ps i) (at_in ps i s.within) s.here
 
 -- nothing stands in a gap
 gap_tail : (p : Proposal) (ps : List Proposal) (a b i : ℕ) → Gap (p ∷ ps) a b (suc i) → Gap ps a b i

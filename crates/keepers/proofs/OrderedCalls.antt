@@ -7,6 +7,7 @@ use Rattle.matching.specs.Matching.{level, SameButAt}
 use Rattle.matching.specs.Canonical.{joins}
 use Rattle.matching.specs.Meanings.{Meaning, Lawful, ratio, Put, Take}
 use Rattle.matching.specs.Rules.{ordered, ordered_put, ordered_take, ByOrder}
+use Rattle.matching.proofs.Lists.{first_in}
 use Rattle.matching.proofs.Order.{one_open}
 use Rattle.matching.proofs.Ordered.{ordered_keeps}
 use Rattle.choices.specs.Mates.{entry}
@@ -17,8 +18,7 @@ use Rattle.keepers.specs.Meant.{meaning_of, ChosenInOrder, Opened, Closed, Recho
 use Rattle.choices.specs.declared.mates.Mates.{Mates}
 use Rattle.keepers.specs.declared.stores.Store.{Store}
 use Rattle.keepers.proofs.OrderedRule.{rechosen_is}
-use Rattle.choices.proofs.Scans.{first_in}
-use Rattle.keepers.proofs.Storing.{means, in_order}
+use Rattle.keepers.proofs.Storing.{stored}
 
 small : (m : Meaning) → Lawful m → Small m.opened
 small m h p i = omega (arith, h.inside p i, h.few)
@@ -50,18 +50,14 @@ module _
         (subst Small (sym opened) (small m' lawful))))
         (rechosen_is l (meaning_of k).chosen m'.opened (subst (λ (D : List Proposal). SameButAt ratio l (meaning_of k).chosen D) by others)))
 
-    pub anew_means : meaning_of k₂ ≡ m'
-    anew_means = means k₂ m' lawful (anew.size ∙ size) (ap capacity_of anew.table ∙ capacity) (ap opened_in anew.table ∙ opened) shows
-
-    pub anew_order : ChosenInOrder k₂
-    anew_order = record {
-      order = in_order k₂ m' lawful (anew.size ∙ size) (ap capacity_of anew.table ∙ capacity) (ap opened_in anew.table ∙ opened) shows;
-      rule = subst ByOrder (sym anew_means) by;
-    }
+    pub anew_done : ChosenInOrder k₂ × (meaning_of k₂ ≡ m')
+    anew_done =
+        let s = stored k₂ m' lawful (anew.size ∙ size) (ap capacity_of anew.table ∙ capacity) (ap opened_in anew.table ∙ opened) shows in
+        (record { order = s.0; rule = subst ByOrder (sym s.1) by }, s.1)
 
 -- p was put into the table
 module _ (k k₁ k₂ : Store) (p : Proposal) (l : ℕ) (ok : ChosenInOrder k) (d : Opened k p k₁) (at : l ≡ level ratio p) (anew : Rechosen k₁ l k₂) where
-  pub put_became : Put (meaning_of k) p (ordered_put (meaning_of k) p)
+  put_became : Put (meaning_of k) p (ordered_put (meaning_of k) p)
   put_became = (ordered_keeps (meaning_of k) ok.order.lawful ok.rule).puts p d.may
 
   elsewhere_put : SameButAt ratio l (meaning_of k).chosen (ordered_put (meaning_of k) p).chosen
@@ -70,15 +66,12 @@ module _ (k k₁ k₂ : Store) (p : Proposal) (l : ℕ) (ok : ChosenInOrder k) (
   low_put : l < 20
   low_put = subst (λ (j : ℕ). j < 20) (sym at) (level_bound ratio p.saving)
 
-  pub put_means : meaning_of k₂ ≡ ordered_put (meaning_of k) p
-  put_means = anew_means k k₁ k₂ l (ordered_put (meaning_of k) p) ok put_became.lawful refl d.size d.capacity d.opened d.choice elsewhere_put low_put anew
-
-  pub put_order : ChosenInOrder k₂
-  put_order = anew_order k k₁ k₂ l (ordered_put (meaning_of k) p) ok put_became.lawful refl d.size d.capacity d.opened d.choice elsewhere_put low_put anew
+  pub put_done : ChosenInOrder k₂ × (meaning_of k₂ ≡ ordered_put (meaning_of k) p)
+  put_done = anew_done k k₁ k₂ l (ordered_put (meaning_of k) p) ok put_became.lawful refl d.size d.capacity d.opened d.choice elsewhere_put low_put anew
 
 -- q was taken out of the table
 module _ (k k₁ k₂ : Store) (pair : Pair) (q : Proposal) (l : ℕ) (ok : ChosenInOrder k) (d : Closed k pair q k₁) (at : l ≡ level ratio q) (anew : Rechosen k₁ l k₂) where
-  pub take_became : Take (meaning_of k) pair (ordered_take (meaning_of k) pair)
+  take_became : Take (meaning_of k) pair (ordered_take (meaning_of k) pair)
   take_became = (ordered_keeps (meaning_of k) ok.order.lawful ok.rule).takes pair d.may
 
   -- it is the one that was open for the pair
@@ -94,8 +87,5 @@ module _ (k k₁ k₂ : Store) (pair : Pair) (q : Proposal) (l : ℕ) (ok : Chos
   low_take : l < 20
   low_take = subst (λ (j : ℕ). j < 20) (sym at) (level_bound ratio q.saving)
 
-  pub take_means : meaning_of k₂ ≡ ordered_take (meaning_of k) pair
-  take_means = anew_means k k₁ k₂ l (ordered_take (meaning_of k) pair) ok take_became.3.lawful refl d.size d.capacity d.opened d.choice elsewhere_take low_take anew
-
-  pub take_order : ChosenInOrder k₂
-  take_order = anew_order k k₁ k₂ l (ordered_take (meaning_of k) pair) ok take_became.3.lawful refl d.size d.capacity d.opened d.choice elsewhere_take low_take anew
+  pub take_done : ChosenInOrder k₂ × (meaning_of k₂ ≡ ordered_take (meaning_of k) pair)
+  take_done = anew_done k k₁ k₂ l (ordered_take (meaning_of k) pair) ok take_became.3.lawful refl d.size d.capacity d.opened d.choice elsewhere_take low_take anew

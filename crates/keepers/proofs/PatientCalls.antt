@@ -7,7 +7,7 @@ use Rattle.matching.specs.Matching.{level}
 use Rattle.matching.specs.Canonical.{Ascending, joins, without}
 use Rattle.matching.specs.Meanings.{Meaning, Lawful, ratio, Put, Take}
 use Rattle.matching.specs.Rules.{patient_put, patient_take, patient_loses, rejoins}
-use Rattle.matching.proofs.Lists.{kept_by_in}
+use Rattle.matching.proofs.Lists.{kept_by_in, first_in}
 use Rattle.matching.proofs.Order.{in_insert}
 use Rattle.matching.proofs.Patient.{patient_keeps}
 use Rattle.keepers.specs.Tables.{capacity_of, opened_in}
@@ -17,9 +17,8 @@ use Rattle.keepers.specs.Meant.{meaning_of, InOrder, Opened, Closed, Rejoined, J
 use Rattle.choices.specs.declared.mates.Mates.{Mates}
 use Rattle.keepers.specs.declared.stores.Store.{Store}
 use Rattle.choices.proofs.Adding.{shows_adds}
-use Rattle.choices.proofs.Scans.{first_in}
 use Rattle.keepers.proofs.PatientRule.{shows_rejoins, shows_parted, shows_still, chosen_one, chosen_none}
-use Rattle.keepers.proofs.Storing.{means, in_order}
+use Rattle.keepers.proofs.Storing.{stored}
 
 -- the open proposals have meters below 256, and so have the chosen ones
 few : (m : Meaning) → Lawful m → (p : Proposal) → p ∈ m.opened → p.high < 256
@@ -37,7 +36,7 @@ module _
     (holds : p.high < 256 → Holds c (joined_if_free (entry k₁.choice) p))
     (ok : InOrder k)
   where
-    pub put_became : Put (meaning_of k) p (patient_put (meaning_of k) p)
+    put_became : Put (meaning_of k) p (patient_put (meaning_of k) p)
     put_became = (patient_keeps (meaning_of k) ok.lawful).puts p d.may
 
     small : p.high < 256
@@ -48,11 +47,8 @@ module _
         shows_adds (entry k.choice) (entry c) (meaning_of k).chosen p ok.shows (few_chosen (meaning_of k) ok.lawful) small
         (subst (λ (x : Mates). (j u : ℕ) → j < 20 → u < 256 → entry c j u ≡ joined_if_free (entry x) p j u) d.choice (holds small))
 
-    pub put_order : InOrder (record { meters = k₁.meters; table = k₁.table; choice = c })
-    put_order = in_order (record { meters = k₁.meters; table = k₁.table; choice = c }) (patient_put (meaning_of k) p) put_became.lawful d.size d.capacity d.opened shows_put
-
-    pub put_means : meaning_of (record { meters = k₁.meters; table = k₁.table; choice = c }) ≡ patient_put (meaning_of k) p
-    put_means = means (record { meters = k₁.meters; table = k₁.table; choice = c }) (patient_put (meaning_of k) p) put_became.lawful d.size d.capacity d.opened shows_put
+    pub put_done : InOrder (record { meters = k₁.meters; table = k₁.table; choice = c }) × (meaning_of (record { meters = k₁.meters; table = k₁.table; choice = c }) ≡ patient_put (meaning_of k) p)
+    put_done = stored (record { meters = k₁.meters; table = k₁.table; choice = c }) (patient_put (meaning_of k) p) put_became.lawful d.size d.capacity d.opened shows_put
 
 -- a meter was joined to the first that offers
 rejoined : (k k' : Store) (C opened : List Proposal) (v l : ℕ) → Shows (entry k.choice) C → ((p : Proposal) → p ∈ C → p.high < 256) →
@@ -86,7 +82,7 @@ module _
     (parts : q.high < 256 → (r ≡ mated (entry k₁.choice) q) × Holds c (parted_if_mated (entry k₁.choice) q))
     (ok : InOrder k)
   where
-    pub take_became : Take (meaning_of k) pair (patient_take (meaning_of k) pair)
+    take_became : Take (meaning_of k) pair (patient_take (meaning_of k) pair)
     take_became = (patient_keeps (meaning_of k) ok.lawful).takes pair d.may
 
     lawful : Lawful (patient_take (meaning_of k) pair)
@@ -112,11 +108,8 @@ module _
           (sym (chosen_none (entry k.choice) (opened_in k.table) ok.lawful.ascending pair.low pair.high q d.was apart))
           (shows_still (entry k.choice) (opened_in k.table) ok.lawful.ascending pair.low pair.high q d.was (entry c) (few (meaning_of k) ok.lawful) ok.shows holds apart)
 
-      pub take_order : InOrder (record { meters = k₁.meters; table = k₁.table; choice = c })
-      take_order = in_order (record { meters = k₁.meters; table = k₁.table; choice = c }) (patient_take (meaning_of k) pair) lawful d.size d.capacity d.opened shows_still_taken
-
-      pub take_means : meaning_of (record { meters = k₁.meters; table = k₁.table; choice = c }) ≡ patient_take (meaning_of k) pair
-      take_means = means (record { meters = k₁.meters; table = k₁.table; choice = c }) (patient_take (meaning_of k) pair) lawful d.size d.capacity d.opened shows_still_taken
+      pub take_done : InOrder (record { meters = k₁.meters; table = k₁.table; choice = c }) × (meaning_of (record { meters = k₁.meters; table = k₁.table; choice = c }) ≡ patient_take (meaning_of k) pair)
+      take_done = stored (record { meters = k₁.meters; table = k₁.table; choice = c }) (patient_take (meaning_of k) pair) lawful d.size d.capacity d.opened shows_still_taken
 
     -- they were: the lower one and then the higher one was joined anew
     module _
@@ -163,8 +156,5 @@ module _
         same_table : k₄.table ≡ k₁.table
         same_table = second.table ∙ first.table
 
-        pub retake_order : InOrder k₄
-        retake_order = in_order k₄ (patient_take (meaning_of k) pair) lawful (second.size ∙ first.size ∙ d.size) (ap capacity_of same_table ∙ d.capacity) (ap opened_in same_table ∙ d.opened) shows_taken
-
-        pub retake_means : meaning_of k₄ ≡ patient_take (meaning_of k) pair
-        retake_means = means k₄ (patient_take (meaning_of k) pair) lawful (second.size ∙ first.size ∙ d.size) (ap capacity_of same_table ∙ d.capacity) (ap opened_in same_table ∙ d.opened) shows_taken
+        pub retake_done : InOrder k₄ × (meaning_of k₄ ≡ patient_take (meaning_of k) pair)
+        retake_done = stored k₄ (patient_take (meaning_of k) pair) lawful (second.size ∙ first.size ∙ d.size) (ap capacity_of same_table ∙ d.capacity) (ap opened_in same_table ∙ d.opened) shows_taken

@@ -1,5 +1,5 @@
 -- The patient rule, carried out on a table of mates that shows the choice.
-use Rattle.std.proofs.Common.{◌≡◌, ℕ, ◌<◌, Bool, true, false, cond, not, ◌&&◌, ◌||◌, eqb, List, [], ◌∷◌, Some, None, filter, Option, sym, refl, ap, ◌∙◌, subst, inl, inr, arith, MatchOption}
+use Rattle.std.proofs.Common.{◌≡◌, ℕ, ◌<◌, Bool, true, false, cond, not, ◌&&◌, ◌||◌, eqb, List, [], ◌∷◌, Some, None, filter, Option, sym, refl, ap, ◌∙◌, subst, inl, inr, MatchOption}
 use Rattle.std.proofs.lemmas.Bool.{cond-true, cond-false, and_parts, both_ways}
 use Rattle.proposals.specs.declared.proposals.Proposal.{Proposal}
 use Rattle.matching.specs.Lists.{◌∈◌, first_of}
@@ -7,12 +7,11 @@ use Rattle.matching.specs.Matching.{level, has}
 use Rattle.matching.specs.Canonical.{Ascending, insert, joins, without}
 use Rattle.matching.specs.Meanings.{ratio}
 use Rattle.matching.specs.Rules.{blocked, offers, nearest, rejoins, chosen_too}
-use Rattle.matching.proofs.Lists.{kept_by_in, in_kept_by}
+use Rattle.matching.proofs.Lists.{kept_by_in, in_kept_by, first_in, first_only, first_nothing}
 use Rattle.matching.proofs.Order.{insert_in, one_open, picked_ascends}
 use Rattle.matching.proofs.Nearest.{first_is_nearest}
 use Rattle.choices.specs.Mates.{both_free, mated, joined_if_free, parted_if_mated, offered}
 use Rattle.choices.specs.Showing.{Shows}
-use Rattle.choices.proofs.Scans.{first_in}
 use Rattle.choices.proofs.Adding.{HeldAlike, shows_same, both_free_lem, free_blocked}
 use Rattle.choices.proofs.Joining.{shows_join, shows_part}
 
@@ -21,15 +20,6 @@ first_alike : (t u : Proposal → Bool) (ps : List Proposal) → ((p : Proposal)
 first_alike t u [] h = refl
 first_alike t u (p ∷ ps) h =
     ap (λ b. cond b (Some p) (first_of t ps)) (h p (inl refl)) ∙ ap (cond (u p) (Some p)) (first_alike t u ps (λ q m. h q (inr m)))
-
-first_passes : (t : Proposal → Bool) (ps : List Proposal) (p : Proposal) → p ∈ ps → t p ≡ true → first_of t ps ≡ None → ⊥
-first_passes t [] p m h e = m
-first_passes t (q ∷ ps) p m h e = go (t q) refl m e (λ k. first_passes t ps p k h)
-  where
-    go : (b : Bool) → t q ≡ b → p ∈ (q ∷ ps) → cond b (Some q) (first_of t ps) ≡ None → (p ∈ ps → first_of t ps ≡ None → ⊥) → ⊥
-    go true k m e ih = let never : ◌≡◌ {A = ℕ} 0 1 = cc in omega arith
-    go false k (inl x) e ih = both_ways (t q) k (ap t (sym x) ∙ h)
-    go false k (inr n) e ih = ih n e
 
 -- what the table offers is what the rule lets be joined
 offered_is : (N : ℕ → ℕ → ℕ) (C : List Proposal) (l v : ℕ) (p : Proposal) → Shows N C → p.high < 256 → offered N l v p ≡ offers ratio C l v p
@@ -73,30 +63,22 @@ shows_rejoins N N' C opened l v s fewC up few (Some p) e is =
 
 -- the proposal q that is open for a and b is the chosen one for them, if its meters are mates, and else none is
 module _ (N : ℕ → ℕ → ℕ) (opened : List Proposal) (up : Ascending opened) (a b : ℕ) (q : Proposal) (was : first_of (joins a b) opened ≡ Some q) where
+  it : (q ∈ opened) × (joins a b q ≡ true)
+  it = first_in (joins a b) opened q was
+
+  -- of those that the table of mates picks, only q is for a and b
+  only : (p : Proposal) → p ∈ filter (mated N) opened → joins a b p ≡ true → (p ≡ q) × (mated N p ≡ true)
+  only p m e = let k = kept_by_in (mated N) opened p m in (one_open opened p q a b up k.0 it.0 e it.1, k.1)
+
   pub chosen_one : mated N q ≡ true → (q ∈ filter (mated N) opened) × (first_of (joins a b) (filter (mated N) opened) ≡ Some q)
   chosen_one h =
-      let i = first_in (joins a b) opened q was in
-      let m : q ∈ filter (mated N) opened = in_kept_by (mated N) opened q i.0 h in
-      (m, found (first_of (joins a b) (filter (mated N) opened)) refl m i.1)
-    where
-      found : (o : Option Proposal) → first_of (joins a b) (filter (mated N) opened) ≡ o → q ∈ filter (mated N) opened → joins a b q ≡ true →
-          first_of (joins a b) (filter (mated N) opened) ≡ Some q
-      found None e m j = absurd (first_passes (joins a b) (filter (mated N) opened) q m j e)
-      found (Some p) e m j =
-          let i = first_in (joins a b) (filter (mated N) opened) p e in
-          e ∙ ap (λ x. Some x) (one_open (filter (mated N) opened) p q a b (picked_ascends (mated N) opened up) i.0 m i.1 j)
+      let m : q ∈ filter (mated N) opened = in_kept_by (mated N) opened q it.0 h in
+      (m, first_only (joins a b) (filter (mated N) opened) q m it.1 (λ p n e. (only p n e).0))
 
   pub chosen_none : mated N q ≡ false → first_of (joins a b) (filter (mated N) opened) ≡ None
-  chosen_none h = none (first_of (joins a b) (filter (mated N) opened)) refl
-    where
-      none : (o : Option Proposal) → first_of (joins a b) (filter (mated N) opened) ≡ o → first_of (joins a b) (filter (mated N) opened) ≡ None
-      none None e = e
-      none (Some p) e =
-          let i = first_in (joins a b) (filter (mated N) opened) p e in
-          let k = kept_by_in (mated N) opened p i.0 in
-          let j = first_in (joins a b) opened q was in
-          let same : p ≡ q = one_open opened p q a b up k.0 j.0 i.1 j.1 in
-          absurd (both_ways (mated N q) h (ap (mated N) (sym same) ∙ k.1))
+  chosen_none h =
+      first_nothing (joins a b) (filter (mated N) opened)
+      (λ p m e. let (same, k) = only p m e in both_ways (mated N q) h (ap (mated N) (sym same) ∙ k))
 
   -- it is chosen no more, and its meters are free
   module _ (N' : ℕ → ℕ → ℕ) (few : (p : Proposal) → p ∈ opened → p.high < 256) (s : Shows N (filter (mated N) opened)) (is : (j u : ℕ) → j < 20 → u < 256 → N' j u ≡ parted_if_mated N q j u) where

@@ -3,10 +3,13 @@
 
 mod ordering;
 mod patience;
+mod ruled;
+mod rules;
 mod stores;
 mod tables;
 mod traits;
 
 pub use ordering::Ordered;
 pub use patience::Patient;
+pub use tables::MOST_OPEN;
 pub use traits::{Keeper, Reader};

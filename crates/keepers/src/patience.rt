@@ -1,84 +1,42 @@
-ghost use Rattle.std.specs.Prelude.{◌≡◌, min, length};
-ghost use Rattle.matching.specs.Meanings.{bare};
 ghost use Rattle.matching.specs.Rules.{patient_put, patient_take};
-ghost use Rattle.keepers.specs.Calls.{Puts, Takes, PutsBy, TakesBy};
 ghost use Rattle.keepers.specs.Meant.{meaning_of, InOrder};
+ghost use Rattle.matching.proofs.Patient.{patient_keeps};
 
+use crate::ruled::Ruled;
+use crate::rules::Rule;
 use crate::stores::Store;
-use crate::traits::{Keeper, Reader};
-use proposals::{GroupSize, Pair, Proposal, Refusal};
+use proposals::Proposal;
+
+/// The rule of the patient keeper.
+#[derive(Drop)]
+pub struct Patience;
 
 /// The patient keeper: it chooses a new proposal if neither meter has a mate at that level,
 /// and gives a chosen one up only when that one is taken.
-#[derive(Drop)]
-pub struct Patient<'a> {
-    store: Store<'a>,
-}
+pub type Patient<'a> = Ruled<'a, Patience>;
 
-impl<'a> Patient<'a> {
-    /// A keeper with no open proposal, over a table that is handed over. It can hold as many as the table, and at most 4,096.
-    pub fn new(size: GroupSize, table: &'a mut [Proposal]) -> Patient<'a>
-        ensures means { meaning_of result.store ≡ bare size.meters (min (length table.old) 4096) }
-        ensures order { InOrder result.store }
-    {
-        Patient {
-            store: Store::new(size, table),
+impl Rule for Patience {
+    ghost sound = { InOrder };
+
+    ghost put = { patient_put };
+
+    ghost take = { patient_take };
+
+    ghost begins = { λ k size capacity ok is. ok };
+
+    ghost in_order = { λ k ok. ok };
+
+    ghost keeps = { λ k ok. patient_keeps (meaning_of k) ok.lawful };
+
+    fn after_put(store: &mut Store<'_>, proposal: Proposal) {
+        store.choice.join_if_free(proposal);
+    }
+
+    fn after_take(store: &mut Store<'_>, closed: Proposal) {
+        if store.choice.part_if_mates(closed) {
+            let level = closed.level();
+            store.rejoin(closed.low(), level);
+            store.rejoin(closed.high(), level);
         }
-    }
-}
-
-impl<'a> Reader for Patient<'a> {
-    ghost meaning = { λ k. meaning_of k.store };
-
-    ghost sound = { λ k. InOrder k.store };
-
-    ghost lawful = { λ k ok. ok.lawful };
-
-    fn size(&self) -> GroupSize {
-        self.store.size()
-    }
-
-    fn capacity(&self) -> u32 {
-        self.store.capacity()
-    }
-
-    fn open_count(&self) -> u32 {
-        self.store.open_count()
-    }
-
-    fn saving(&self, pair: Pair) -> Option<u32> {
-        self.store.saving(pair)
-    }
-
-    fn mate(&self, meter: u32, level: u32) -> Option<u32> {
-        self.store.mate(meter, level)
-    }
-}
-
-impl<'a> Keeper for Patient<'a> {
-    fn put(&mut self, proposal: Proposal) -> Result<(), Refusal>
-        ensures sound { InOrder self.old.store → InOrder self.new.store }
-        ensures exact { InOrder self.old.store → Puts (meaning_of self.old.store) proposal result (meaning_of self.new.store) }
-        ensures rule { InOrder self.old.store → PutsBy patient_put (meaning_of self.old.store) proposal result (meaning_of self.new.store) }
-    {
-        self.store.insert(proposal)?;
-        self.store.choice.join_if_free(proposal);
-        Ok(())
-    }
-
-    fn take(&mut self, pair: Pair) -> Result<(), Refusal>
-        ensures sound { InOrder self.old.store → InOrder self.new.store }
-        ensures exact { InOrder self.old.store → Takes (meaning_of self.old.store) pair result (meaning_of self.new.store) }
-        ensures rule { InOrder self.old.store → TakesBy patient_take (meaning_of self.old.store) pair result (meaning_of self.new.store) }
-    {
-        let closed = self.store.remove(pair)?;
-        let level = closed.level();
-        let low = closed.low();
-        let high = closed.high();
-        if self.store.choice.part_if_mates(closed) {
-            self.store.rejoin(low, level);
-            self.store.rejoin(high, level);
-        }
-        Ok(())
     }
 }

@@ -1,13 +1,14 @@
-ghost use Rattle.std.specs.Prelude.{◌≡◌, ◌<◌, ◌≤◌, min, length, MatchResult, OnErr};
-ghost use Rattle.proposals.specs.declared.refusals.Reason.TheVariants.{MeterOutsideGroup};
-ghost use Rattle.matching.specs.Meanings.{found, bare, open_count, saving_of, mate_of};
+ghost use Rattle.std.specs.Prelude.{◌≡◌, min, length, OnErr};
+ghost use Rattle.matching.specs.Meanings.{bare, open_count, saving_of, mate_of};
 ghost use Rattle.keepers.specs.Meant.{meaning_of, InOrder, Opens, Closes, Rejoined, Rechosen};
 
-use crate::tables::{OpenTable, refuse};
+use crate::tables::OpenTable;
 use choices::Mates;
-use proposals::{GroupSize, Pair, Proposal, Reason, Refusal};
+use proposals::{GroupSize, Layer, Pair, Proposal, Refusal};
 
-/// What both keepers hold: the group's size, the open proposals in a lent table, and the choice.
+/// What each keeper here holds: how many meters the group has, the open proposals in a lent table, and the choice.
+/// That it is in order is a premise of the contracts: by a rule of the project the keeper's laws are no invariant of a type.
+/// The size is a plain number: the checker covers no call that is generic over a type with a `&mut` and a struct with a ghost field.
 #[derive(Drop)]
 pub struct Store<'a> {
     pub meters: u32,
@@ -21,12 +22,10 @@ impl<'a> Store<'a> {
         ensures means { meaning_of result ≡ bare size.meters (min (length table.old) 4096) }
         ensures order { InOrder result }
     {
-        let table = OpenTable::new(table);
-        let choice = Mates::new();
         Store {
             meters: size.meters(),
-            table,
-            choice,
+            table: OpenTable::new(table),
+            choice: Mates::new(),
         }
     }
 
@@ -51,10 +50,7 @@ impl<'a> Store<'a> {
     pub fn saving(&self, pair: Pair) -> Option<u32>
         ensures { InOrder self.now → result ≡ saving_of (meaning_of self.now) pair.low pair.high }
     {
-        match self.table.get(pair) {
-            Some(proposal) => Some(proposal.saving()),
-            None => None,
-        }
+        self.table.get(pair).map(Proposal::saving)
     }
 
     pub fn mate(&self, meter: u32, level: u32) -> Option<u32>
@@ -63,31 +59,22 @@ impl<'a> Store<'a> {
         self.choice.mate(meter, level)
     }
 
-    /// Refuses a pair with a meter outside the group.
-    fn check(&self, pair: Pair) -> Result<(), Refusal>
-        ensures { MatchResult result (λ _. pair.high < self.now.meters) (λ e. (e ≡ found MeterOutsideGroup) × (self.now.meters ≤ pair.high)) }
-    {
-        if pair.high() >= self.meters {
-            return Err(refuse(Reason::MeterOutsideGroup));
-        }
-        Ok(())
-    }
-
     /// Opens a proposal, and leaves the choice as it is.
     pub fn insert(&mut self, proposal: Proposal) -> Result<(), Refusal>
         ensures refused { OnErr result (self.new ≡ self.old) }
         ensures exact { InOrder self.old → Opens self.old proposal result self.new }
     {
-        self.check(proposal.pair())?;
+        self.size().admit(proposal.high(), Layer::Keeper)?;
         self.table.insert(proposal)
     }
 
     /// Closes a pair, and leaves the choice as it is.
+    #[tactic(auto, using(crate::proofs::Storing::closes))]
     pub fn remove(&mut self, pair: Pair) -> Result<Proposal, Refusal>
         ensures refused { OnErr result (self.new ≡ self.old) }
         ensures exact { InOrder self.old → Closes self.old pair result self.new }
     {
-        self.check(pair)?;
+        self.size().admit(pair.high(), Layer::Keeper)?;
         self.table.remove(pair)
     }
 

@@ -1,26 +1,16 @@
 ghost use Rattle.std.specs.Prelude.{◌≡◌, ◌<◌, ◌≤◌, length, MatchResult, OnErr};
 ghost use Rattle.matching.specs.Lists.{first_of};
 ghost use Rattle.matching.specs.Canonical.{Ascending, joins};
-ghost use Rattle.matching.specs.Meanings.{found};
 ghost use Rattle.keepers.specs.Tables.{capacity_of, count_of, opened_in, Stands, Gap, Inserts, Removes};
 
 use proposals::{Layer, Pair, Proposal, Reason, Refusal};
-use std::cmp::Ordering;
 
 /// The most proposals that a keeper holds.
-const MOST: usize = 4096;
-
-/// The refusal that this layer finds for a reason.
-pub fn refuse(reason: Reason) -> Refusal
-    ensures { result ≡ found reason }
-{
-    Refusal {
-        reason,
-        layer: Layer::Keeper,
-    }
-}
+pub const MOST_OPEN: usize = 4096;
 
 /// The open proposals, by rising lower, then higher meter, in the first places of a lent table.
+/// A count stands beside the table and not a `Vec` in its place, since keepers use no heap.
+/// That they are in order is a premise of the contracts: by a rule of the project the keeper's laws are no invariant of a type.
 #[derive(Drop)]
 pub struct OpenTable<'a> {
     table: &'a mut [Proposal],
@@ -32,17 +22,7 @@ fn find(opened: &[Proposal], pair: Pair) -> Result<usize, usize>
     ensures within { MatchResult result (λ i. i < length opened.now) (λ i. i ≤ length opened.now) }
     ensures exact { Ascending opened.now → MatchResult result (Stands opened.now pair.low pair.high) (Gap opened.now pair.low pair.high) }
 {
-    let mut from = 0;
-    let mut to = opened.len();
-    while from < to {
-        let middle = from + (to - from) / 2;
-        match opened[middle].pair().order(pair) {
-            Ordering::Less => from = middle + 1,
-            Ordering::Equal => return Ok(middle),
-            Ordering::Greater => to = middle,
-        }
-    }
-    Err(from)
+    opened.binary_search_by(|proposal| proposal.pair().cmp(&pair))
 }
 
 impl<'a> OpenTable<'a> {
@@ -57,7 +37,7 @@ impl<'a> OpenTable<'a> {
     pub fn capacity(&self) -> usize
         ensures { result ≡ capacity_of self.now }
     {
-        self.table.len().min(MOST)
+        self.table.len().min(MOST_OPEN)
     }
 
     /// How many proposals are open.
@@ -71,7 +51,7 @@ impl<'a> OpenTable<'a> {
     pub fn opened(&self) -> &[Proposal]
         ensures { result.now ≡ opened_in self.now }
     {
-        &self.table[0..self.len()]
+        &self.table[..self.len()]
     }
 
     /// The open proposal for a pair.
@@ -79,10 +59,8 @@ impl<'a> OpenTable<'a> {
         ensures { Ascending (opened_in self.now) → result ≡ first_of (joins pair.low pair.high) (opened_in self.now) }
     {
         let opened = self.opened();
-        match find(opened, pair) {
-            Ok(at) => Some(opened[at]),
-            Err(_) => None,
-        }
+        let at = find(opened, pair).ok()?;
+        Some(opened[at])
     }
 
     /// Puts a proposal in at its place.
@@ -90,16 +68,15 @@ impl<'a> OpenTable<'a> {
         ensures refused { OnErr result (self.new ≡ self.old) }
         ensures exact { Ascending (opened_in self.old) → Inserts self.old proposal result self.new }
     {
-        let at = match find(self.opened(), proposal.pair()) {
-            Ok(_) => return Err(refuse(Reason::AlreadyOpen)),
-            Err(at) => at,
+        let Err(at) = find(self.opened(), proposal.pair()) else {
+            return Err(Reason::AlreadyOpen.found_by(Layer::Keeper));
         };
         let len = self.len();
         if len >= self.capacity() {
-            return Err(refuse(Reason::KeeperFull));
+            return Err(Reason::KeeperFull.found_by(Layer::Keeper));
         }
         self.table[len] = proposal;
-        self.table[at..len + 1].rotate_right(1);
+        self.table[at..=len].rotate_right(1);
         self.len = len + 1;
         Ok(())
     }
@@ -109,11 +86,10 @@ impl<'a> OpenTable<'a> {
         ensures refused { OnErr result (self.new ≡ self.old) }
         ensures exact { Ascending (opened_in self.old) → Removes self.old pair result self.new }
     {
-        let len = self.len();
-        let at = match find(self.opened(), pair) {
-            Ok(at) => at,
-            Err(_) => return Err(refuse(Reason::NotOpen)),
+        let Ok(at) = find(self.opened(), pair) else {
+            return Err(Reason::NotOpen.found_by(Layer::Keeper));
         };
+        let len = self.len();
         let proposal = self.table[at];
         self.table[at..len].rotate_left(1);
         self.len = len - 1;

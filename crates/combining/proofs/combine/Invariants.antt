@@ -1,8 +1,5 @@
-use Rattle.std.proofs.Common.{◌≡◌, drop}
 use Rattle.combining.specs.Steps.{DownTo}
 use Rattle.combining.proofs.combine.Given as goal
 
 abbrev pub invariant-loop-level : goal.invariant-loop-level
-invariant-loop-level g l =
-    (drop l.n l.row ≡ drop l.n l.initial.row) ×
-    (g.R.Reader.sound l.reader → DownTo (g.R.Reader.meaning l.reader) l.level l.row)
+invariant-loop-level g l = g.R.Reader.sound l.reader → DownTo (g.R.Reader.meaning l.reader) l.level l.partners

@@ -1,11 +1,6 @@
-use Rattle.std.proofs.Common.{◌∙◌, arith}
+use Rattle.std.proofs.Common.{arith}
 use Rattle.std.proofs.lemmas.List.Edits.{fill_by_more}
-use Rattle.std.proofs.lemmas.List.{drop-set-lt}
 use Rattle.combining.proofs.free.Goals as goal
 
 pub loop-meter-preserved : goal.loop-meter-preserved
-loop-meter-preserved c =
-    let l = c.loop-meter in (
-      fill_by_more (λ v. v) l.row l.meter 0 (omega arith) l.invariant.0,
-      drop-set-lt c.args.n l.row l.meter l.meter (omega arith) ∙ l.invariant.1,
-    )
+loop-meter-preserved c = let l = c.loop-meter in fill_by_more (λ v. v) l.partners l.meter 0 (omega arith) l.invariant

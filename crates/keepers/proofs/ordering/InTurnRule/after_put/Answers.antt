@@ -1,0 +1,5 @@
+use Rattle.keepers.proofs.OrderedCalls.{put_done}
+use Rattle.keepers.proofs.ordering.InTurnRule.after_put.Goals as goal
+
+pub returns : goal.returns
+returns c = λ k ok opened. put_done k c.args.store.now c.rechoose.new.self c.args.proposal _ ok opened c.level.ensures.value c.rechoose.ensures

@@ -1,0 +1,5 @@
+use Rattle.keepers.proofs.OrderedCalls.{take_done}
+use Rattle.keepers.proofs.ordering.InTurnRule.after_take.Goals as goal
+
+pub returns : goal.returns
+returns c = λ k pair ok closed. take_done k c.args.store.now c.rechoose.new.self pair c.args.closed _ ok closed c.level.ensures.value c.rechoose.ensures
