@@ -72,7 +72,7 @@ list_step m places r row row' rest h w is written =
     ]
 
 -- one more call with its answer
-events_more : (calls : List Call) (answers : List Answer) (c : Call) (a : Answer) → length calls ≡ length answers →
+events_more : (calls : List Call) (answers : List (Result Answer Refusal)) (c : Call) (a : Result Answer Refusal) → length calls ≡ length answers →
     events_of (calls ++ c ∷ []) (answers ++ a ∷ []) ≡ events_of calls answers ++ event_of c a ∷ []
 events_more [] [] c a e = refl
 events_more [] (y ∷ ys) c a e = absurd (omega arith)
@@ -80,7 +80,7 @@ events_more (x ∷ xs) [] c a e = absurd (omega arith)
 events_more (x ∷ xs) (y ∷ ys) c a e = ap (λ (es : List runs.Event). event_of x y ∷ es) (events_more xs ys c a (omega arith))
 
 -- the calls and the answers past the end of the other list make no event
-pub events_short : (n : ℕ) (calls : List Call) (answers : List Answer) → min (length calls) (length answers) ≤ n →
+pub events_short : (n : ℕ) (calls : List Call) (answers : List (Result Answer Refusal)) → min (length calls) (length answers) ≤ n →
     events_of (take n calls) (take n answers) ≡ events_of calls answers
 events_short zero [] answers h = refl
 events_short zero (x ∷ xs) [] h = refl
@@ -90,7 +90,7 @@ events_short (suc n) (x ∷ xs) [] h = refl
 events_short (suc n) (x ∷ xs) (y ∷ ys) h = ap (λ (es : List runs.Event). event_of x y ∷ es) (events_short n xs ys (omega arith))
 
 -- a run grows by a call and its answer
-pub run_more : (m₀ m m' : Meaning) (calls : List Call) (answers : List Answer) (i : ℕ) (c : Call) (a : Answer) → i < length calls → i < length answers →
+pub run_more : (m₀ m m' : Meaning) (calls : List Call) (answers : List (Result Answer Refusal)) (i : ℕ) (c : Call) (a : Result Answer Refusal) → i < length calls → i < length answers →
     c ≡ get_or calls i c → Run m₀ (events_of (take i calls) (take i answers)) m → Step m (call_of c) (answer_of a) m' →
     Run m₀ (events_of (take (i + 1) calls) (take (i + 1) (set answers i a))) m'
 run_more m₀ m m' calls answers i c a hc ha is r s =

@@ -17,12 +17,15 @@ call_of call.Saved = saved
 call_of (call.List w) = list w
 
 -- of a list's row the numbers that were written
-abbrev pub answer_of : Answer → runs.Answer
-answer_of (answer.Counts a c) = counts a c
-answer_of (answer.Partner o) = partnered o
-answer_of (answer.Saved s) = sum s
-answer_of (answer.List k row) = listed k (take (3 * k) row)
-answer_of (answer.Refused e) = refused e
+abbrev pub accepted_as : Answer → runs.Answer
+accepted_as (answer.Counts a c) = counts a c
+accepted_as (answer.Partner o) = partnered o
+accepted_as (answer.Saved s) = sum s
+accepted_as (answer.List k row) = listed k (take (3 * k) row)
+
+abbrev pub answer_of : Result Answer Refusal → runs.Answer
+answer_of (Ok a) = accepted_as a
+answer_of (Err e) = refused e
 
 -- the answers of the single calls: to a proposal or a withdrawal, to a question for a partner, and to a list with the row after it
 abbrev pub counting : Result (ℕ × ℕ) Refusal → runs.Answer
@@ -38,10 +41,10 @@ listing (Ok k) row = listed k (take (3 * k) row)
 listing (Err e) row = refused e
 
 -- each call with its answer, as far as there are both
-abbrev pub event_of : Call → Answer → runs.Event
+abbrev pub event_of : Call → Result Answer Refusal → runs.Event
 event_of c a = record { call = call_of c; answer = answer_of a }
 
-abbrev pub events_of : List Call → List Answer → List runs.Event
+abbrev pub events_of : List Call → List (Result Answer Refusal) → List runs.Event
 events_of [] answers = []
 events_of (c ∷ calls) [] = []
 events_of (c ∷ calls) (a ∷ answers) = event_of c a ∷ events_of calls answers

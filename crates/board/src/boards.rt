@@ -5,14 +5,8 @@ ghost use Rattle.board.specs.Calls.{Proposes, Withdraws, mate_or, Changes, Refre
 ghost use Rattle.board.specs.Serving.{Serves};
 
 use keepers::{Keeper, Reader};
-use proposals::{Pair, Proposal, Refusal, level};
-use settling::{KeptPairs, count_differing};
-
-/// How many levels there are.
-const LEVELS: u32 = 20;
-
-/// The most meters that a group has.
-const METERS: u32 = 256;
+use proposals::{LEVELS, Pair, Proposal, Refusal, level};
+use settling::{KeptPairs, Row, count_differing, row_of};
 
 /// A board holds a keeper, from opening to closing, and keeps the pairs that static combining picks from the keeper's choice.
 #[derive(Drop)]
@@ -22,11 +16,26 @@ pub struct Board<K> {
     pub(crate) kept: KeptPairs,
 }
 
+/// What the contracts of the calls speak of.
+pub trait Serving {
+    /// What the board's keeper means.
+    ghost meaning: { Self → Meaning };
+
+    /// The keeper is sound, and the board keeps what static combining picks from its choice.
+    ghost serves: { Self → Type 0 };
+}
+
+impl<R: Reader> Serving for Board<R> {
+    ghost meaning = { λ board. R.meaning board.keeper };
+
+    ghost serves = { λ board. Serves (R.sound board.keeper) (R.meaning board.keeper) board.kept };
+}
+
 impl<R: Reader> Board<R> {
     /// Opens a board over a keeper, whatever it holds, and keeps what static combining picks from its choice.
     pub fn open(keeper: R) -> Board<R>
         ensures keeper { result.keeper ≡ keeper }
-        ensures serves { R.sound keeper → Serves (R.sound result.keeper) (R.meaning result.keeper) result.kept }
+        ensures serves { R.sound keeper → ⟦<Board<R> as Serving>⟧.serves result }
     {
         let mut kept = KeptPairs::new();
         for level in (0..LEVELS).rev() {
@@ -46,12 +55,13 @@ impl<R: Reader> Board<R> {
 }
 
 impl<K: Keeper> Board<K> {
-    /// Opens a proposal. Answers how many kept pairs that altered, and how many pairs came to the keeper's choice or went from it.
+    /// Opens a proposal. Answers how many kept pairs that altered, and how many pairs came to the keeper's choice or went from it:
+    /// two counts together, the form in which they are asked for.
     pub fn propose(&mut self, proposal: Proposal) -> Result<(u32, u32), Refusal>
-        ensures serves { Serves (K.Reader.sound self.old.keeper) (K.Reader.meaning self.old.keeper) self.old.kept
-            → Serves (K.Reader.sound self.new.keeper) (K.Reader.meaning self.new.keeper) self.new.kept }
-        ensures exact { Serves (K.Reader.sound self.old.keeper) (K.Reader.meaning self.old.keeper) self.old.kept
-            → Proposes (K.Reader.meaning self.old.keeper) proposal result (K.Reader.meaning self.new.keeper) }
+        ensures serves { ⟦<Board<K> as Serving>⟧.serves self.old
+            → ⟦<Board<K> as Serving>⟧.serves self.new }
+        ensures exact { ⟦<Board<K> as Serving>⟧.serves self.old
+            → Proposes (⟦<Board<K> as Serving>⟧.meaning self.old) proposal result (⟦<Board<K> as Serving>⟧.meaning self.new) }
         ensures refused { OnErr result (self.new.kept ≡ self.old.kept) }
     {
         self.keeper.put(proposal)?;
@@ -60,10 +70,9 @@ impl<K: Keeper> Board<K> {
 
     /// Closes the proposal for a pair. Answers how many kept pairs that altered, and how many pairs came to the keeper's choice or went from it.
     pub fn withdraw(&mut self, pair: Pair) -> Result<(u32, u32), Refusal>
-        ensures serves { Serves (K.Reader.sound self.old.keeper) (K.Reader.meaning self.old.keeper) self.old.kept
-            → Serves (K.Reader.sound self.new.keeper) (K.Reader.meaning self.new.keeper) self.new.kept }
-        ensures exact { Serves (K.Reader.sound self.old.keeper) (K.Reader.meaning self.old.keeper) self.old.kept
-            → Withdraws (K.Reader.meaning self.old.keeper) pair result (K.Reader.meaning self.new.keeper) }
+        ensures serves { ⟦<Board<K> as Serving>⟧.serves self.old → ⟦<Board<K> as Serving>⟧.serves self.new }
+        ensures exact { ⟦<Board<K> as Serving>⟧.serves self.old
+            → Withdraws (⟦<Board<K> as Serving>⟧.meaning self.old) pair result (⟦<Board<K> as Serving>⟧.meaning self.new) }
         ensures refused { OnErr result (self.new.kept ≡ self.old.kept) }
     {
         let saving = self.keeper.saving(pair).unwrap_or(0);
@@ -85,15 +94,8 @@ fn refresh<R: Reader>(kept: &mut KeptPairs, reader: &R, level: u32) -> (u32, u32
 }
 
 /// Each meter's mate at a level in a keeper's choice, or its own number.
-fn mates_of<R: Reader>(reader: &R, level: u32) -> [u32; 256]
+fn mates_of<R: Reader>(reader: &R, level: u32) -> Row
     ensures { R.sound reader.now → (v : ℕ) → v < 256 → slice_index result v ≡ mate_or (R.meaning reader.now) level v }
 {
-    let mut row = [0; 256];
-    for meter in 0..METERS {
-        row[meter as usize] = match reader.mate(meter, level) {
-            Some(mate) => mate,
-            None => meter,
-        };
-    }
-    row
+    row_of(|meter| reader.mate(meter, level))
 }

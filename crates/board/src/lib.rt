@@ -5,5 +5,5 @@ mod boards;
 mod reading;
 mod replaying;
 
-pub use boards::Board;
-pub use replaying::{Answer, Call, replay};
+pub use boards::{Board, Serving};
+pub use replaying::{Answer, Call, PLACES, replay};

@@ -25,19 +25,14 @@ loop-i-preserved g c =
           ),
     )
 
-pub returns : goal.returns
-returns g c =
+pub returns-clause-law : goal.returns-clause-law
+returns-clause-law g c = λ sound.
     let l = c.loop-i in
     let calls = c.args.calls.now in
-    record {
-      serves = λ sound. (l.invariant.1 (c.open-board.ensures.serves sound)).0;
-      law = λ sound.
-          let opened = c.open-board.ensures.serves sound in
-          let m = g.K.Reader.meaning l.board.keeper in
-          let events = events_of calls l.answers in
-          let same : events_of (take l.i calls) (take l.i l.answers) ≡ events = events_short l.i calls l.answers (omega arith) in
-          subst (λ (k : g.row.K.Denot). LawAlong (g.K.Reader.meaning k) events m) c.open-board.ensures.keeper
-          (law_of_runs (g.K.Reader.meaning c.open-board.result.keeper) m events opened.lawful
-          (subst (λ (es : List Event). Run (g.K.Reader.meaning c.open-board.result.keeper) es m) same (l.invariant.1 opened).1));
-      rest = l.invariant.0;
-    }
+    let opened = c.open-board.ensures.serves sound in
+    let m = g.K.Reader.meaning l.board.keeper in
+    let events = events_of calls l.answers in
+    let same : events_of (take l.i calls) (take l.i l.answers) ≡ events = events_short l.i calls l.answers (omega arith) in
+    subst (λ (k : g.row.K.Denot). LawAlong (g.K.Reader.meaning k) events m) c.open-board.ensures.keeper
+    (law_of_runs (g.K.Reader.meaning c.open-board.result.keeper) m events opened.lawful
+    (subst (λ (es : List Event). Run (g.K.Reader.meaning c.open-board.result.keeper) es m) same (l.invariant.1 opened).1))

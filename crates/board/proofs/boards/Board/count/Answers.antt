@@ -16,10 +16,5 @@ loop-meter-preserved g c =
       λ serves. omega (arith, l.invariant.1 serves, count_next serves l.meter found (c.higher_end.ensures serves)),
     )
 
-pub returns : goal.returns
-returns g c =
-    let l = c.loop-meter in
-    record {
-      bound = omega (arith, l.invariant.0);
-      value = λ serves. l.invariant.1 serves ∙ ap length (in_the_end serves l.meter c.loop-meter-test.false);
-    }
+pub returns-clause-value : goal.returns-clause-value
+returns-clause-value g c = λ serves. let l = c.loop-meter in l.invariant.1 serves ∙ ap length (in_the_end serves l.meter c.loop-meter-test.false)

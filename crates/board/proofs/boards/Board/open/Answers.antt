@@ -1,11 +1,8 @@
-use Rattle.std.proofs.Common.{ℕ, ◌-◌, ◌<◌, refl, arith}
+use Rattle.std.proofs.Common.{ℕ, ◌-◌, ◌<◌, arith}
 use Rattle.settling.specs.Following.{row}
 use Rattle.board.proofs.Changing.{serves}
 use Rattle.board.proofs.Copying.{copied, matching, followed_mate}
 use Rattle.board.proofs.boards.Board.open.Goals as goal
-
-pub loop-level-init : goal.loop-level-init
-loop-level-init g c sound = (c.new-kept.ensures.sound, λ j v le hj hv. absurd (omega arith))
 
 pub loop-level-preserved : goal.loop-level-preserved
 loop-level-preserved g c sound =
@@ -21,14 +18,9 @@ loop-level-preserved g c sound =
           followed_mate m l c.loop-level.kept c.follow.new.self T is f j v hj hv (λ ne. inv.1 j v (omega arith) hj hv),
     )
 
-pub returns : goal.returns
-returns g c =
-    record {
-      keeper = refl;
-      serves = λ sound.
-          let m = g.R.Reader.meaning c.args.keeper in
-          let h = g.R.Reader.lawful c.args.keeper sound in
-          let inv = c.loop-level.invariant sound in
-          serves (g.R.Reader.sound c.args.keeper) m c.loop-level.kept sound h
-          (copied m h c.loop-level.kept inv.0 (λ j v hj hv. inv.1 j v (omega arith) hj hv));
-    }
+pub returns-clause-serves : goal.returns-clause-serves
+returns-clause-serves g c = λ sound.
+    let m = g.R.Reader.meaning c.args.keeper in
+    let h = g.R.Reader.lawful c.args.keeper sound in
+    let inv = c.loop-level.invariant sound in
+    serves (g.R.Reader.sound c.args.keeper) m c.loop-level.kept sound h (copied m h c.loop-level.kept inv.0 (λ j v hj hv. inv.1 j v (omega arith) hj hv))
