@@ -1,4 +1,4 @@
--- What a line's order asks of a board, and what comes of it.
+-- What a line's order asks of a recipient, and what comes of it.
 use Rattle.std.specs.Prelude.{◌≡◌, ℕ, true, cond, Some, Ok, Err, Option, Result, ◌==◌, nat_le}
 use Rattle.proposals.specs.declared.refusals.Refusal.{Refusal}
 use Rattle.proposals.specs.Making.{Pairs, Proposes, pair_refusal, proposal_refusal}
@@ -30,7 +30,7 @@ abbrev pub unmeant : Order → Option Refusal
 unmeant (Add a b saving) = proposal_refusal a.value b.value saving.value
 unmeant (Off a b) = pair_refusal a.value b.value
 
--- a board over a keeper that means m obeys an order: its call is accepted; or there is no such call, or the board refuses it, and nothing changes
+-- a recipient that means m obeys an order: its call is accepted; or there is no such call, or it is refused, and nothing changes
 pub data Obeys (m : Meaning) (o : Order) : Result (Unit {0}) Refusal → Meaning → Type 0 where
   obeyed : {m' : Meaning} (call : Call) (answer : Answer) → Means o call → Step m call answer m' → accepted answer ≡ true → Obeys m o (Ok tt) m'
   senseless : {e : Refusal} → unmeant o ≡ Some e → Obeys m o (Err e) m

@@ -1,14 +1,16 @@
--- What feeding a text to a board answers and does.
-use Rattle.std.specs.Prelude.{◌≡◌, ℕ, ◌+◌, ◌<◌, ◌≤◌, true, ◌⊎◌, List, [], ◌∷◌, ◌++◌, length, Ok, Err, Result, MatchResult, ◌≢◌}
+-- What feeding a text to a recipient, a board or a keeper alone, answers and does.
+use Rattle.std.specs.Prelude.{◌≡◌, ℕ, ◌+◌, ◌<◌, ◌≤◌, true, ◌⊎◌, List, [], ◌∷◌, ◌++◌, length, Some, None, Ok, Err, Option, Result, MatchResult, ◌≢◌, codes, decimal}
 use Rattle.std.specs.List.{AllByRecursion}
 use Rattle.proposals.specs.declared.refusals.Layer.TheVariants as layer
 use Rattle.proposals.specs.declared.refusals.Reason.{Reason}
 use Rattle.proposals.specs.declared.refusals.Reason.TheVariants.{TextTooLong, BadNamesLine}
 use Rattle.proposals.specs.declared.refusals.Refusal.{Refusal}
+use Rattle.proposals.specs.Refusals.{number_of}
 use Rattle.matching.specs.Meanings.{Meaning}
 use Rattle.runs.specs.Runs.{Event, Step, accepted}
 use Rattle.runs.specs.Law.{LawAlong}
 use Rattle.update_text.specs.Orders.{Asks, Flawed, Whole, text_flaw}
+use Rattle.update_text.specs.Steps.{TookPart, unread}
 use Rattle.update_text.specs.Texts.{AtEnd, Headed, LineAt}
 use Rattle.update_text.specs.Names.{NamesLine, Placing}
 use Rattle.update_text.specs.Writing.{Wish, Writable, WrittenFrom, written}
@@ -16,10 +18,16 @@ use Rattle.update_text.specs.declared.columns.Columns.{Columns}
 use Rattle.update_text.specs.declared.orders.Flaw.{Flaw}
 use Rattle.update_text.specs.declared.orders.Order.{Order}
 use Rattle.update_text.specs.declared.parts.Part.{Part}
+use Rattle.update_text.specs.declared.parts.Parts.{Parts}
 use Rattle.feeding.specs.Obeying.{Means, Obeys, flaw_of}
 use Rattle.feeding.specs.declared.feeding.Stop.{Stop}
 
--- one line done: it asks for the event's call, which the board accepted
+-- what the first line of a reader was: a names line for these columns, or one for none
+abbrev pub NamesTaken : Parts → Option Columns → Parts → Type 0
+NamesTaken s None t = unread s ≡ true → (line : Part) × TookPart s line t × ((columns : Columns) → NamesLine columns line → ⊥)
+NamesTaken s (Some columns) t = (line : Part) × TookPart s line t × NamesLine columns line
+
+-- one line done: it asks for the event's call, which was accepted
 pub record LineDone (columns : Columns) (text : List ℕ) (place : ℕ) (m : Meaning) (e : Event) (m' : Meaning) : Type 0 where
   pub line : Part
   pub there : LineAt text place line
@@ -36,7 +44,7 @@ pub data Done (columns : Columns) (text : List ℕ) (m : Meaning) : ℕ → List
   further : {n : ℕ} {events : List Event} {t u : Meaning} {e : Event} → Done columns text m n events t → LineDone columns text (n + 1) t e u →
       Done columns text m (n + 1) (events ++ e ∷ []) u
 
--- a board over a keeper that means m stops at a line: the line is not in form, or asks for what is refused
+-- a recipient that means m stops at a line: the line is not in form, or asks for what is refused
 pub record RefusedAt (columns : Columns) (m : Meaning) (line : Part) (e : Flaw) : Type 0 where
   pub whole : Whole line
   pub order : Order
@@ -55,6 +63,10 @@ names_stop reason = record { done = 0; line = 1; byte = 0; refusal = (text_flaw 
 abbrev pub stop_after : ℕ → Flaw → Stop
 stop_after n e = record { done = n; line = n + 2; byte = e.byte; refusal = e.refusal }
 
+-- how a stop is printed: the word, the line, the byte and the refusal's number, with a `;` between two of them
+abbrev pub stop_line : Stop → List ℕ
+stop_line s = codes "stopped;" ++ (decimal s.line ++ 59 ∷ (decimal s.byte ++ 59 ∷ decimal (number_of s.refusal.reason)))
+
 -- what feeding a text answers and does: the lines before the first that stops it are done, and nothing else is
 pub data Fed (text : List ℕ) (m : Meaning) : Result ℕ Stop → List Event → Meaning → Type 0 where
   long : 32768 < length text → Fed text m (Err (names_stop TextTooLong)) [] m
@@ -65,13 +77,13 @@ pub data Fed (text : List ℕ) (m : Meaning) : Result ℕ Stop → List Event �
   finished : {n : ℕ} {events : List Event} {t : Meaning} → length text ≤ 32768 → (columns : Columns) → Headed columns text →
       Done columns text m n events t → AtEnd text (n + 1) → Fed text m (Ok n) events t
 
--- and the calls of the lines done are a run of the board, along which the law holds
+-- and the calls of the lines done are a run, along which the law holds
 pub record Feeding (text : List ℕ) (m : Meaning) (r : Result ℕ Stop) (m' : Meaning) : Type 0 where
   pub events : List Event
   pub fed : Fed text m r events m'
   pub law : LawAlong m events m'
 
--- a line that a board was given: done, or a stop
+-- a line that a recipient was given: done, or a stop
 abbrev pub ObeyedLine : Columns → Part → Meaning → Result (Unit {0}) Flaw → Meaning → Type 0
 ObeyedLine columns line m r m' =
     MatchResult r (λ _. Whole line × ((o : Order) × Asks columns line o × Obeys m o (Ok tt) m')) (λ e. StopsAt columns m line e × (m' ≡ m))

@@ -1,18 +1,16 @@
-ghost use Rattle.std.specs.Prelude.{◌≡◌, IfErr};
-ghost use Rattle.matching.specs.Meanings.{Meaning};
-ghost use Rattle.board.specs.Serving.{Serves};
+ghost use Rattle.std.specs.Prelude.{◌≡◌, IfErr, Some};
 ghost use Rattle.update_text.specs.Lines.{Counted};
 ghost use Rattle.update_text.specs.Names.{Placing};
 ghost use Rattle.feeding.specs.Obeying.{Obeys, flaw_of};
-ghost use Rattle.feeding.specs.Texts.{Feeding, ObeyedLine, names_stop};
+ghost use Rattle.feeding.specs.Texts.{Feeding, NamesTaken, ObeyedLine, names_stop, stop_line};
 
-use board::Board;
-use keepers::Keeper;
-use proposals::{Pair, Proposal, Reason, Refusal};
-use update_text::{Columns, Flaw, Order, Part, Parts, read_order};
+use crate::ways::Way;
+use proposals::{Layer, Pair, Proposal, Reason, Refusal};
+use std::fmt;
+use update_text::{Columns, Flaw, Order, Part, Parts};
 
 /// The most bytes that a text has.
-const TEXT_LIMIT: usize = 32768;
+pub const TEXT_LIMIT: usize = 32768;
 
 /// Where a text was stopped at, and why.
 #[derive(Clone, Copy)]
@@ -35,36 +33,43 @@ impl Stop {
             done: 0,
             line: 1,
             byte: 0,
-            refusal: Flaw::new(0, reason).refusal,
+            refusal: reason.found_by(Layer::Text),
         }
     }
 }
 
-/// Does what the lines of a text ask for, one by one, and stops at the first refusal: the lines before it stay done.
+impl fmt::Display for Stop {
+    ghost output = { λ stop. Some (stop_line stop) };
+
+    fn fmt<W: fmt::Write>(&self, f: &mut fmt::Formatter<W>) -> fmt::Result {
+        let line = self.line;
+        let byte = self.byte;
+        let number = self.refusal.number();
+        write!(f, "stopped;{line};{byte};{number}")
+    }
+}
+
+/// Gives a recipient what the lines of a text ask for, one by one, and stops at the first refusal: the lines before it stay done.
 /// Answers how many lines after the names line were done.
-pub fn feed<K: Keeper>(board: &mut Board<K>, text: &[u8]) -> Result<usize, Stop>
-    ensures serves { Serves (K.Reader.sound board.old.keeper) (K.Reader.meaning board.old.keeper) board.old.kept
-        → Serves (K.Reader.sound board.new.keeper) (K.Reader.meaning board.new.keeper) board.new.kept }
-    ensures fed { Serves (K.Reader.sound board.old.keeper) (K.Reader.meaning board.old.keeper) board.old.kept
-        → Feeding text.now (K.Reader.meaning board.old.keeper) result (K.Reader.meaning board.new.keeper) }
-    ensures untouched { IfErr result (λ e. e.line ≡ 1 → board.new ≡ board.old) }
+pub fn feed<W: Way<T>, T>(recipient: &mut T, text: &[u8]) -> Result<usize, Stop>
+    ensures sound { W.sound recipient.old → W.sound recipient.new }
+    ensures fed { W.sound recipient.old → Feeding text.now (W.meaning recipient.old) result (W.meaning recipient.new) }
+    ensures untouched { IfErr result (λ e. e.line ≡ 1 → recipient.new ≡ recipient.old) }
 {
     if text.len() > TEXT_LIMIT {
         return Err(Stop::at_names(Reason::TextTooLong));
     }
     let mut lines = Parts::of(text, 0, b'\n');
-    let Some(names) = lines.next_part() else {
+    let Some(columns) = read_names(&mut lines) else {
         return Err(Stop::at_names(Reason::BadNamesLine));
     };
-    let Some(columns) = Columns::read(names) else {
-        return Err(Stop::at_names(Reason::BadNamesLine));
-    };
+    // Counted here, as `enumerate` would not tell how many there were once the lines are at their end.
     let mut done = 0;
-    while let Some(line) = lines.next_part() {
+    for line in lines {
         if line.is_end() {
             return Ok(done);
         }
-        if let Err(flaw) = obey_line(board, columns, line) {
+        if let Err(flaw) = obey_line::<W, T>(recipient, columns, line) {
             return Err(Stop {
                 done,
                 line: done + 2,
@@ -77,38 +82,34 @@ pub fn feed<K: Keeper>(board: &mut Board<K>, text: &[u8]) -> Result<usize, Stop>
     Ok(done)
 }
 
-/// Does what one line asks for.
-fn obey_line<K: Keeper>(board: &mut Board<K>, columns: Columns, line: Part) -> Result<(), Flaw>
-    ensures serves { Serves (K.Reader.sound board.old.keeper) (K.Reader.meaning board.old.keeper) board.old.kept
-        → Serves (K.Reader.sound board.new.keeper) (K.Reader.meaning board.new.keeper) board.new.kept }
-    ensures exact { Serves (K.Reader.sound board.old.keeper) (K.Reader.meaning board.old.keeper) board.old.kept
-        → Counted line.entry → Placing columns → ObeyedLine columns line.entry (K.Reader.meaning board.old.keeper) result (K.Reader.meaning board.new.keeper) }
+/// The columns that the first line of a text names.
+fn read_names(lines: &mut Parts) -> Option<Columns>
+    ensures { NamesTaken lines.old result lines.new }
 {
-    let order = read_order(line, columns)?;
-    match obey(board, order) {
-        Ok(()) => Ok(()),
-        Err(refusal) => Err(flaw_of(board.size().meters(), line.at, order, refusal)),
-    }
+    Columns::read(lines.next()?)
+}
+
+/// Does what one line asks for.
+fn obey_line<W: Way<T>, T>(recipient: &mut T, columns: Columns, line: Part) -> Result<(), Flaw>
+    ensures sound { W.sound recipient.old → W.sound recipient.new }
+    ensures exact { W.sound recipient.old → Counted line.entry → Placing columns → ObeyedLine columns line.entry (W.meaning recipient.old) result (W.meaning recipient.new) }
+{
+    let order = columns.read_order(line)?;
+    let meters = W::size(recipient).meters();
+    obey::<W, T>(recipient, order).map_err(|refusal| flaw_of(meters, line.at, order, refusal))
 }
 
 /// Makes the call that an order asks for.
-fn obey<K: Keeper>(board: &mut Board<K>, order: Order) -> Result<(), Refusal>
-    ensures serves { Serves (K.Reader.sound board.old.keeper) (K.Reader.meaning board.old.keeper) board.old.kept
-        → Serves (K.Reader.sound board.new.keeper) (K.Reader.meaning board.new.keeper) board.new.kept }
-    ensures exact { Serves (K.Reader.sound board.old.keeper) (K.Reader.meaning board.old.keeper) board.old.kept
-        → Obeys (K.Reader.meaning board.old.keeper) order result (K.Reader.meaning board.new.keeper) }
+fn obey<W: Way<T>, T>(recipient: &mut T, order: Order) -> Result<(), Refusal>
+    ensures sound { W.sound recipient.old → W.sound recipient.new }
+    ensures exact { W.sound recipient.old → Obeys (W.meaning recipient.old) order result (W.meaning recipient.new) }
 {
     match order {
         Order::Add { a, b, saving } => {
-            let proposal = Proposal::new(a.value, b.value, saving.value)?;
-            board.propose(proposal)?;
+            W::add(recipient, Proposal::new(a.value, b.value, saving.value)?)
         }
-        Order::Off { a, b } => {
-            let pair = Pair::new(a.value, b.value)?;
-            board.withdraw(pair)?;
-        }
+        Order::Off { a, b } => W::take_off(recipient, Pair::new(a.value, b.value)?),
     }
-    Ok(())
 }
 
 /// A refusal of a call with the byte that is at fault, in a group of so many meters and a line that begins at the byte `start`.
@@ -119,10 +120,10 @@ fn flaw_of(meters: u32, start: usize, order: Order, refusal: Refusal) -> Flaw
         Order::Add { a, b, saving } => (a, b, saving.at),
         Order::Off { a, b } => (a, b, start),
     };
-    let byte = match refusal.number() {
-        2 => b.at,
-        3 => saving_at,
-        4 => { if a.value >= meters { a.at } else { b.at } }
+    let byte = match refusal.reason {
+        Reason::EqualMeters => b.at,
+        Reason::SavingOutOfRange => saving_at,
+        Reason::MeterOutsideGroup => { if a.value >= meters { a.at } else { b.at } }
         _ => start,
     };
     Flaw { byte, refusal }

@@ -3,8 +3,7 @@ ghost use Rattle.feeding.specs.Texts.{FedAsWritten};
 
 /// A text that is fed to its end was written out, line for line, from what was done; and a text that was written out
 /// is stopped by no refusal of the text's own.
-pub fn a_text_is_fed_as_it_was_written() -> u8
+#[tactic(auto, using(crate::proofs::Spelling::fed_as_written))]
+pub fn a_text_is_fed_as_it_was_written()
     ensures { FedAsWritten }
-{
-    0
-}
+{}

@@ -1,14 +1,10 @@
 -- The lines of a text, followed one after another.
-use Rattle.std.proofs.Common.{◌≡◌, ℕ, zero, suc, ◌+◌, ◌≤◌, Bool, true, false, not, eqb, List, [], ◌∷◌, length, Err, sym, refl, ap, ◌∙◌, subst, arith, below_more}
+use Rattle.std.proofs.Common.{◌≡◌, ℕ, ◌+◌, ◌≤◌, Bool, true, false, not, eqb, List, [], ◌∷◌, length, sym, refl, ap, ◌∙◌, arith}
 use Rattle.std.proofs.lemmas.Bool.{and_from, and_parts, both_ways, eq-eqb, eqb-true, le-ltb, ltb-false, ltb-true, not-true}
-use Rattle.proposals.specs.declared.refusals.Reason.TheVariants.{BadNamesLine}
-use Rattle.update_text.specs.Cuts.{cut}
 use Rattle.update_text.specs.Lines.{Counted}
-use Rattle.update_text.specs.Names.{Named, NamesLine}
-use Rattle.update_text.specs.Steps.{Started, TookPart, is_end}
-use Rattle.update_text.specs.Texts.{AtEnd, Fed, Headed, LineAt, Orderly, OrderlyTo, lines_of, names_stop}
-use Rattle.update_text.specs.Texts.Fed.{unnamed}
-use Rattle.update_text.specs.declared.feeding.Stop.{Stop}
+use Rattle.update_text.specs.Names.{NamesLine}
+use Rattle.update_text.specs.Steps.{Started, TookPart, is_end, rest_of}
+use Rattle.update_text.specs.Texts.{AtEnd, Headed, LineAt, lines_of}
 use Rattle.update_text.specs.declared.columns.Columns.{Columns}
 use Rattle.update_text.specs.declared.parts.Part.{Part}
 use Rattle.update_text.specs.declared.parts.Parts.{Parts}
@@ -31,7 +27,7 @@ module _ (text : List ℕ) (few : length text ≤ 32768) (place : ℕ) (s : Part
       }
 
   pub line_counted : Counted p
-  line_counted = omega (arith, h.start, b.end (omega arith), b.passed h.was, shorter s.mark s.rest.now p.bytes.now h.after h.cut)
+  line_counted = omega (arith, h.start, b.end (omega arith), b.passed h.was, shorter s.mark (rest_of s) p.bytes.now h.after h.cut)
 
 -- the first line that is read is the one that names the columns
 module _ (text : List ℕ) (few : length text ≤ 32768) (s : Parts) (p : Part) (t : Parts) (b : Started s text 0 10) (h : TookPart s p t) where
@@ -40,13 +36,6 @@ module _ (text : List ℕ) (few : length text ≤ 32768) (s : Parts) (p : Part) 
 
   pub headed_by : (columns : Columns) → NamesLine columns p → Headed columns text
   headed_by columns names = (p, first_line, names)
-
--- two readings of a line are one line
-pub same_names : (text : List ℕ) (columns : Columns) (p q : Part) → LineAt text 0 p → LineAt text 0 q → NamesLine columns p → NamesLine columns q
-same_names text columns p q lp lq h = record {
-  fed = lq.fed ∙ sym lp.fed ∙ h.fed;
-  named = subst (λ bs. Named columns (cut 59 bs)) (sym lp.bytes ∙ lq.bytes) h.named;
-}
 
 nil : (xs : List ℕ) → length xs ≡ 0 → xs ≡ []
 nil [] e = refl
@@ -69,19 +58,3 @@ not_at_end text place p at is end =
 -- a line with a line feed is not the last
 pub not_last : (text : List ℕ) (place : ℕ) (p : Part) → LineAt text place p → p.marked ≡ true → length (lines_of text) ≤ place + 1 → ⊥
 not_last text place p at fed out = omega (arith, ltb-true (place + 1) (length (lines_of text)) (sym at.fed ∙ fed))
-
--- a first line that names no columns
-pub unnamed_by : (text : List ℕ) → length text ≤ 32768 → (p : Part) → LineAt text 0 p → ((columns : Columns) → NamesLine columns p → ⊥) → (e : Stop) → e ≡ names_stop BadNamesLine → Fed text (Err e)
-unnamed_by text few p line nameless e is =
-    subst (λ x. Fed text (Err x)) (sym is)
-    (unnamed few (λ columns headed. nameless columns (same_names text columns headed.0 p headed.1 line headed.2)))
-
-pub orderly_more : (columns : Columns) (text : List ℕ) (n : ℕ) (p : Part) → OrderlyTo columns text n → LineAt text (n + 1) p → Orderly columns p → OrderlyTo columns text (n + 1)
-orderly_more columns text n p before at orderly = below_more _ _ before (p, at, orderly)
-
--- an orderly line is not the last
-pub never_out : (columns : Columns) (text : List ℕ) (n : ℕ) → Headed columns text → OrderlyTo columns text n → length (lines_of text) ≤ n + 1 → ⊥
-never_out columns text zero headed orderly out = not_last text 0 headed.0 headed.1 headed.2.fed out
-never_out columns text (suc n) headed orderly out =
-    let last = orderly n (omega arith) in
-    not_last text (n + 1) last.0 last.1 last.2.1.fed (omega arith)

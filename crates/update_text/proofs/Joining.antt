@@ -2,7 +2,7 @@
 use Rattle.std.proofs.Common.{◌≡◌, ℕ, zero, suc, ◌<◌, true, false, cond, eqb, List, [], ◌∷◌, ◌++◌, length, refl, ap, ◌∙◌, arith}
 use Rattle.std.specs.List.{AllByRecursion}
 use Rattle.std.proofs.lemmas.Bool.{cond_both, cond-false, cond-true, eq-eqb, eqb-false, eqb-true, ne_eqb}
-use Rattle.update_text.specs.Cuts.{CutsAndJoins, Free, cut, joined, widened}
+use Rattle.update_text.specs.Cuts.{Free, cut, joined, widened}
 
 pub cut_free : (mark : ℕ) (bytes : List ℕ) → Free mark bytes → cut mark bytes ≡ bytes ∷ []
 unfolding cut
@@ -41,7 +41,7 @@ joined_widened mark c [] some = absurd (omega arith)
 joined_widened mark c (p ∷ []) some = refl
 joined_widened mark c (p ∷ q ∷ ps) some = refl
 
-joined_cut : (mark : ℕ) (bytes : List ℕ) → joined mark (cut mark bytes) ≡ bytes
+pub joined_cut : (mark : ℕ) (bytes : List ℕ) → joined mark (cut mark bytes) ≡ bytes
 unfolding cut
 joined_cut mark [] = refl
 joined_cut mark (c ∷ cs) =
@@ -59,13 +59,10 @@ widened_free : (mark c : ℕ) (ps : List (List ℕ)) → (c ≡ mark → ⊥) �
 widened_free mark c [] other free = (free_more mark c [] other (λ i lt is. absurd (omega arith)), tt)
 widened_free mark c (p ∷ ps) other free = (free_more mark c p other free.0, free.1)
 
-free_cut : (mark : ℕ) (bytes : List ℕ) → AllByRecursion (Free mark) (cut mark bytes)
+pub free_cut : (mark : ℕ) (bytes : List ℕ) → AllByRecursion (Free mark) (cut mark bytes)
 unfolding cut
 free_cut mark [] = (λ i lt is. absurd (omega arith), tt)
 free_cut mark (c ∷ cs) =
     cond_both (eqb c mark) ([] ∷ cut mark cs) (widened c (cut mark cs)) (AllByRecursion (Free mark))
     (λ e. (λ i lt is. absurd (omega arith), free_cut mark cs))
     (λ e. widened_free mark c (cut mark cs) (eqb-false c mark e) (free_cut mark cs))
-
-pub cuts_and_joins : CutsAndJoins
-cuts_and_joins mark = (λ bytes. (joined_cut mark bytes, free_cut mark bytes), cut_joined mark)

@@ -19,7 +19,7 @@ use Rattle.update_text.specs.declared.orders.Order.{Order}
 use Rattle.update_text.specs.declared.orders.Order.TheVariants as order
 use Rattle.update_text.specs.declared.parts.Part.{Part}
 use Rattle.update_text.proofs.Digits.{plain_digits}
-use Rattle.update_text.proofs.Joining.{cuts_and_joins, cut_joined}
+use Rattle.update_text.proofs.Joining.{cut_joined, joined_cut}
 use Rattle.update_text.proofs.Naming.{named_placing}
 use Rattle.update_text.proofs.Writing.{names_free, reads_back, wish_free}
 
@@ -63,7 +63,7 @@ module _ (columns : Columns) (act a b saving : List ℕ) (placing : Placing colu
   line_is : (line : Part) → length (fields_of line) ≡ 4 → field_of line columns.act ≡ act → field_of line columns.a ≡ a → field_of line columns.b ≡ b →
       field_of line columns.saving ≡ saving → line.bytes.now ≡ joined 59 (row columns act a b saving)
   line_is line four p q r s =
-      sym ((cuts_and_joins 59).0 line.bytes.now).0 ∙ ap (joined 59) (is_row (fields_of line) four (in_column_lem (fields_of line) p q r s))
+      sym (joined_cut 59 line.bytes.now) ∙ ap (joined 59) (is_row (fields_of line) four (in_column_lem (fields_of line) p q r s))
 
 -- a number is what is written of its value
 number_is : (field : List ℕ) → IsNumber field → (decimal (read_on 0 field) ≡ field) × (read_on 0 field < 10 ^ 7)
@@ -138,7 +138,7 @@ module _ (text : List ℕ) (columns : Columns) (n : ℕ) (h : TextInForm text co
         count = count;
         writable = writable;
         placing = placed;
-        is = sym ((cuts_and_joins 10).0 text).0 ∙ ap (joined 10) lines;
+        is = sym (joined_cut 10 text) ∙ ap (joined 10) lines;
       }
 
 -- parts that are free of a mark stay so when they are joined at another

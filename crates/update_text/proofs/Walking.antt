@@ -1,10 +1,10 @@
 -- The parts of a list of bytes, read one after another.
-use Rattle.std.proofs.Common.{◌≡◌, ℕ, ◌+◌, ◌^◌, ◌<◌, ◌≤◌, true, false, cond, not, eqb, ltb, List, [], ◌∷◌, ◌++◌, length, get_or, take, drop, sym, ap, ◌∙◌, subst, ⊎_elim, add-zero, arith, length-drop}
+use Rattle.std.proofs.Common.{◌≡◌, ℕ, ◌+◌, ◌^◌, ◌<◌, ◌≤◌, true, false, cond, not, eqb, ltb, List, [], ◌∷◌, ◌++◌, length, get_or, take, drop, sym, ap, ◌∙◌, ⊎_elim, add-zero, arith, length-drop}
 use lib.Dec.{eqb-suc-zero}
-use Rattle.std.proofs.lemmas.List.{append-nil, drop_all, drop-drop, get_or-drop, take_more}
+use Rattle.std.proofs.lemmas.List.{append-nil, drop-drop, get_or-drop, take_more}
 use Rattle.std.proofs.lemmas.Bool.{cases_Bool, le-ltb, lt-ltb, eq-eqb, cond-true, cond-false, both_ways}
 use Rattle.update_text.specs.Cuts.{Splits, cut, width}
-use Rattle.update_text.specs.Steps.{Started, TookPart}
+use Rattle.update_text.specs.Steps.{Started, TookPart, rest_of, unread}
 use Rattle.update_text.specs.declared.parts.Part.{Part}
 use Rattle.update_text.specs.declared.parts.Parts.{Parts}
 use Rattle.update_text.proofs.Cutting.{shorter}
@@ -20,13 +20,13 @@ cut_split mark all front (x ∷ rest) h =
 
 -- the parts that are still to be read
 abbrev left : Parts → List (List ℕ)
-left s = cond s.more (cut s.mark s.rest.now) []
+left s = cond (unread s) (cut s.mark (rest_of s)) []
 
 took_left : (s : Parts) (p : Part) (t : Parts) → TookPart s p t → left s ≡ p.bytes.now ∷ left t
 took_left s p t h =
-    let before : left s ≡ cut s.mark s.rest.now = cond-true _ _ _ h.was in
-    let more : t.more ≡ not (eqb (length h.after) 0) = h.more ∙ h.marked in
-    let split = cut_split s.mark s.rest.now p.bytes.now h.after h.cut in
+    let before : left s ≡ cut s.mark (rest_of s) = cond-true _ _ _ h.was in
+    let more : unread t ≡ not (eqb (length h.after) 0) = h.more ∙ h.marked in
+    let split = cut_split s.mark (rest_of s) p.bytes.now h.after h.cut in
     let mark = h.mark in
     let rest = h.rest in
     cc
@@ -48,29 +48,29 @@ at_front ps place p qs e =
 pub record Before (mark : ℕ) (bytes : List ℕ) (at place : ℕ) (s : Parts) : Type 0 where
   pub parts : left s ≡ drop place (cut mark bytes)
   pub end : at + length bytes < 2 ^ 64 → s.end ≡ at + length bytes
-  pub passed : s.more ≡ true → width (take place (cut mark bytes)) + length s.rest.now ≡ length bytes
+  pub passed : unread s ≡ true → width (take place (cut mark bytes)) + length (rest_of s) ≡ length bytes
 
 pub before_first : (mark : ℕ) (bytes : List ℕ) (at : ℕ) (s : Parts) → Started s bytes at mark → Before mark bytes at 0 s
 before_first mark bytes at s h =
     let more = h.more in let is = h.mark in let rest = h.rest in record { parts = cond-true _ _ _ more ∙ cc; end = h.end; passed = λ _. omega (arith, ap length rest) }
 
 -- past the last part there is none
-pub none_left : (mark : ℕ) (bytes : List ℕ) (at place : ℕ) (s : Parts) → Before mark bytes at place s → s.more ≡ false → length (cut mark bytes) ≤ place
+pub none_left : (mark : ℕ) (bytes : List ℕ) (at place : ℕ) (s : Parts) → Before mark bytes at place s → unread s ≡ false → length (cut mark bytes) ≤ place
 none_left mark bytes at place s b done =
     let e = ap length (sym b.parts ∙ cond-false _ _ _ done) in omega (arith, length-drop place (cut mark bytes))
 
 -- before a part that a mark precedes
-some_left : (mark : ℕ) (bytes : List ℕ) (at place : ℕ) (s : Parts) → Before mark bytes at place s → s.more ≡ true → place < length (cut mark bytes)
+some_left : (mark : ℕ) (bytes : List ℕ) (at place : ℕ) (s : Parts) → Before mark bytes at place s → unread s ≡ true → place < length (cut mark bytes)
 some_left mark bytes at place s b more =
     let e = ap length (sym b.parts ∙ cond-true _ _ _ more) in
-    omega (arith, length-drop place (cut mark bytes), cut_some s.mark s.rest.now)
+    omega (arith, length-drop place (cut mark bytes), cut_some s.mark (rest_of s))
 
-more_is : (mark : ℕ) (bytes : List ℕ) (at place : ℕ) (s : Parts) → Before mark bytes at place s → s.more ≡ ltb place (length (cut mark bytes))
+more_is : (mark : ℕ) (bytes : List ℕ) (at place : ℕ) (s : Parts) → Before mark bytes at place s → unread s ≡ ltb place (length (cut mark bytes))
 more_is mark bytes at place s b =
     ⊎_elim
     (λ more. more ∙ sym (lt-ltb place (length (cut mark bytes)) (some_left mark bytes at place s b more)))
     (λ done. done ∙ sym (le-ltb place (length (cut mark bytes)) (none_left mark bytes at place s b done)))
-    (cases_Bool s.more)
+    (cases_Bool (unread s))
 
 module _ (mark : ℕ) (bytes : List ℕ) (at place : ℕ) (s : Parts) (p : Part) (t : Parts) (b : Before mark bytes at place s) (h : TookPart s p t) where
   pub here : (place < length (cut mark bytes)) × (get_or (cut mark bytes) place [] ≡ p.bytes.now) × (drop (place + 1) (cut mark bytes) ≡ left t)
@@ -87,21 +87,9 @@ module _ (mark : ℕ) (bytes : List ℕ) (at place : ℕ) (s : Parts) (p : Part)
         let some : length h.after ≡ 0 → ⊥ = λ z. both_ways _ (h.more ∙ h.marked ∙ ap not (eq-eqb (length h.after) 0 z)) more in
         let next : width (take (place + 1) (cut mark bytes)) ≡ width (take place (cut mark bytes)) + (length p.bytes.now + 1) =
         ap width (take_more (cut mark bytes) place [] here.0) ∙ ap (λ q. width (take place (cut mark bytes) ++ q ∷ [])) here.1 ∙ width_push (take place (cut mark bytes)) p.bytes.now in
-        omega (arith, b.passed h.was, shorter s.mark s.rest.now p.bytes.now h.after h.cut, ap length h.rest ∙ length-drop 1 h.after);
+        omega (arith, b.passed h.was, shorter s.mark (rest_of s) p.bytes.now h.after h.cut, ap length h.rest ∙ length-drop 1 h.after);
   }
 
   -- a mark follows every part but the last
   pub marked_is : p.marked ≡ ltb (place + 1) (length (cut mark bytes))
   marked_is = sym h.more ∙ more_is mark bytes at (place + 1) t after
-
-pub before_past : (mark : ℕ) (bytes : List ℕ) (at place : ℕ) (s t : Parts) → Before mark bytes at place s → (s.more ≡ false) × (t ≡ s) → Before mark bytes at (place + 1) t
-before_past mark bytes at place s t b h =
-    let none = none_left mark bytes at place s b h.0 in
-    subst
-    (λ x. Before mark bytes at (place + 1) x)
-    (sym h.1)
-    (record {
-      parts = cond-false _ _ _ h.0 ∙ sym (drop_all (place + 1) (cut mark bytes) (omega arith));
-      end = b.end;
-      passed = λ more. absurd (both_ways _ h.0 more);
-    })

@@ -1,9 +1,12 @@
 -- A line: its fields, and the bytes of the text where they begin.
-use Rattle.std.specs.Prelude.{◌≡◌, ℕ, ◌+◌, ◌^◌, ◌<◌, List, [], length, take, Some, None, Option, slice_index_or}
+use Rattle.std.specs.Prelude.{◌≡◌, ℕ, ◌+◌, ◌^◌, ◌<◌, List, [], ◌∷◌, length, take, Some, None, Option, slice_index_or}
+use Rattle.std.proofs.Props.{props}
+use Rattle.std.specs.Coded.{×_prop}
 use Rattle.update_text.specs.Cuts.{cut, width}
 use Rattle.update_text.specs.Fields.{Reads, place_of}
 use Rattle.update_text.specs.Steps.{NextPart, TookPart}
 use Rattle.update_text.specs.declared.fields.Field.{Field}
+use Rattle.update_text.specs.declared.fields.Field.TheVariants.{Word, Number, Hyphen}
 use Rattle.update_text.specs.declared.lines.LineReader.{LineReader}
 use Rattle.update_text.specs.declared.parts.Part.{Part}
 
@@ -27,6 +30,31 @@ pub record FieldAt (line : Part) (place : ℕ) (f : Field) : Type 0 where
   pub there : place < length (fields_of line)
   pub reads : Reads f (field_of line place) (place_of f)
   pub start : Counted line → place_of f ≡ field_start line place
+
+-- these are the fields of the line from a place on
+abbrev pub FieldsFrom : Part → ℕ → List Field → Type 0
+FieldsFrom line place [] = length (fields_of line) ≡ place
+FieldsFrom line place (f ∷ fs) = FieldAt line place f × FieldsFrom line (place + 1) fs
+
+-- there is one proof of it at most
+reads-prop : (f : Field) (bytes : List ℕ) (at : ℕ) → IsProp (Reads f bytes at)
+reads-prop (Word w o) bytes at = Prim.hlevel props
+reads-prop (Number n w o) bytes at = Prim.hlevel props
+reads-prop (Hyphen w o) bytes at = Prim.hlevel props
+
+field_at-prop : (line : Part) (place : ℕ) (f : Field) → IsProp (FieldAt line place f)
+field_at-prop line place f = Prim.hlevel (props, reads-prop f (field_of line place) (place_of f))
+
+FieldsFrom-prop : (line : Part) (place : ℕ) (fs : List Field) → IsProp (FieldsFrom line place fs)
+FieldsFrom-prop line place [] = Prim.hlevel props
+FieldsFrom-prop line place (f ∷ fs) = ×_prop (field_at-prop line place f) (FieldsFrom-prop line (place + 1) fs)
+
+-- these are the four fields of the line
+abbrev pub IsRow : Part → List Field → Type 0
+IsRow line fields = (length (fields_of line) ≡ 4) × FieldsFrom line 0 fields
+
+pub IsRow-prop : (line : Part) (fields : List Field) → IsProp (IsRow line fields)
+IsRow-prop line fields = ×_prop (Prim.hlevel props) (FieldsFrom-prop line 0 fields)
 
 -- the field f was read, and t is what s became
 pub record TookField (s : LineReader) (f : Field) (t : LineReader) : Type 0 where

@@ -1,15 +1,13 @@
-ghost use Rattle.std.specs.Prelude.{◌≡◌, ℕ, ◌<◌, length, MatchOption, ◌≢◌};
-ghost use Rattle.update_text.specs.Lines.{field_of, fields_of};
+ghost use Rattle.std.specs.Prelude.{◌≡◌, ℕ, ◌<◌, MatchOption, ◌≢◌};
+ghost use Rattle.update_text.specs.Lines.{field_of};
 ghost use Rattle.update_text.specs.Names.{NamesLine};
 ghost use Rattle.update_text.specs.declared.columns.Columns.{Columns as Places};
 
-use crate::lines::{field_at, has_fields};
+use crate::lines::Row;
 use crate::parts::Part;
 
-/// How many fields a line has.
-pub const FIELDS: usize = 4;
-
 /// The place of each column in a line, counted from 0.
+/// That these are four places is a premise of the contracts (`Placing`): as an invariant it would ask more of who writes the columns.
 #[derive(Clone, Copy)]
 pub struct Columns {
     pub act: usize,
@@ -26,33 +24,22 @@ impl Columns {
         if !line.marked {
             return None;
         }
-        if !has_fields(line, FIELDS) {
-            return None;
-        }
-        let Some(act) = place_of(line, b"act") else {
-            return None;
-        };
-        let Some(a) = place_of(line, b"a") else {
-            return None;
-        };
-        let Some(b) = place_of(line, b"b") else {
-            return None;
-        };
-        let Some(saving) = place_of(line, b"saving") else {
-            return None;
-        };
-        Some(Columns { act, a, b, saving })
+        let row = Row::of(line)?;
+        Some(Columns {
+            act: place_of(&row, b"act")?,
+            a: place_of(&row, b"a")?,
+            b: place_of(&row, b"b")?,
+            saving: place_of(&row, b"saving")?,
+        })
     }
 }
 
 /// The first place of a name among the fields of a line.
-fn place_of(line: Part, name: &[u8]) -> Option<usize>
-    ensures { MatchOption result ((k : ℕ) → k < 4 → k < length (fields_of line.entry) → field_of line.entry k ≢ name.now) (λ k. field_of line.entry k ≡ name.now) }
+fn place_of(row: &Row, name: &[u8]) -> Option<usize>
+    ensures { MatchOption result ((k : ℕ) → k < 4 → field_of row.now.line k ≢ name.now) (λ k. field_of row.now.line k ≡ name.now) }
 {
-    for place in 0..FIELDS {
-        let Some(field) = field_at(line, place) else {
-            return None;
-        };
+    // A loop, since the check finds no proof of `position` with a closure over fields that borrow the text.
+    for (place, field) in row.fields.iter().enumerate() {
         if field.bytes() == name {
             return Some(place);
         }

@@ -3,6 +3,7 @@ ghost use Rattle.update_text.specs.Numbers.{IsNumber, read_on};
 ghost use Rattle.update_text.specs.Fields.{Reads, bytes_of, hyphen, place_of};
 
 /// A field of a line: the part of the text that it is, and the byte where that begins.
+/// Each case has both, and not a struct with a kind: that is the form in which fields are asked for.
 #[derive(Clone, Copy)]
 pub enum Field<'a> {
     /// Neither a number nor a hyphen; it may be empty.
@@ -24,6 +25,7 @@ pub enum Field<'a> {
 }
 
 /// The number that the bytes write.
+#[tactic(auto, using(crate::proofs::Digits::small, crate::proofs::Digits::read_on_more))]
 fn number(bytes: &[u8]) -> Option<u32>
     ensures { MatchOption result (IsNumber bytes.now → ⊥) (λ n. IsNumber bytes.now × (n ≡ read_on 0 bytes.now)) }
 {
@@ -35,7 +37,7 @@ fn number(bytes: &[u8]) -> Option<u32>
     }
     let mut n: u32 = 0;
     for b in bytes {
-        if *b < b'0' || *b > b'9' {
+        if !b.is_ascii_digit() {
             return None;
         }
         n = 10 * n + u32::from(*b - b'0');
@@ -62,13 +64,9 @@ impl<'a> Field<'a> {
         ensures { result.now ≡ bytes_of self.entry }
     {
         match self {
-            Field::Word { bytes, at: _ } => bytes,
-            Field::Number {
-                value: _,
-                bytes,
-                at: _,
-            } => bytes,
-            Field::Hyphen { bytes, at: _ } => bytes,
+            Field::Word { bytes, .. } => bytes,
+            Field::Number { bytes, .. } => bytes,
+            Field::Hyphen { bytes, .. } => bytes,
         }
     }
 
@@ -77,13 +75,9 @@ impl<'a> Field<'a> {
         ensures { result ≡ place_of self.entry }
     {
         match self {
-            Field::Word { bytes: _, at } => at,
-            Field::Number {
-                value: _,
-                bytes: _,
-                at,
-            } => at,
-            Field::Hyphen { bytes: _, at } => at,
+            Field::Word { at, .. } => at,
+            Field::Number { at, .. } => at,
+            Field::Hyphen { at, .. } => at,
         }
     }
 
@@ -91,23 +85,13 @@ impl<'a> Field<'a> {
     pub fn is_number(self) -> bool
         ensures { (bs : List ℕ) → Reads self.entry bs (place_of self.entry) → Decides result (IsNumber bs) }
     {
-        match self {
-            Field::Number {
-                value: _,
-                bytes: _,
-                at: _,
-            } => true,
-            _ => false,
-        }
+        matches!(self, Field::Number { .. })
     }
 
     /// Whether the field is a hyphen.
     pub fn is_hyphen(self) -> bool
         ensures { (bs : List ℕ) → Reads self.entry bs (place_of self.entry) → Decides result (bs ≡ hyphen) }
     {
-        match self {
-            Field::Hyphen { bytes: _, at: _ } => true,
-            _ => false,
-        }
+        matches!(self, Field::Hyphen { .. })
     }
 }

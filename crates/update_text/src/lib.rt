@@ -1,8 +1,7 @@
-//! The update text: lines of fields that open and close proposals, read byte by byte and fed to a keeper.
+//! The update text: lines of fields that open and close proposals, read byte by byte.
 #![tactic(auto)]
 
 mod columns;
-mod feeding;
 mod fields;
 mod laws;
 mod lines;
@@ -10,12 +9,11 @@ mod orders;
 mod parts;
 
 pub use columns::Columns;
-pub use feeding::{Stop, feed};
 pub use fields::Field;
 pub use laws::{
     a_line_has_one_answer, a_names_line_places_the_columns, a_text_in_form_is_a_written_list,
     a_written_line_reads_back, cutting_and_joining_undo_each_other,
 };
 pub use lines::LineReader;
-pub use orders::{Act, Entry, Flaw, Order, read_order};
+pub use orders::{Act, Entry, Flaw, Order};
 pub use parts::{Part, Parts};

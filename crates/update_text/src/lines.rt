@@ -1,6 +1,8 @@
-ghost use Rattle.std.specs.Prelude.{◌≡◌, ◌≤◌, length, MatchOption, ◌==◌};
-ghost use Rattle.update_text.specs.Lines.{FieldAt, NextField, fields_of};
-ghost use Rattle.update_text.specs.Steps.{Started};
+ghost use Rattle.std.specs.Prelude.{◌≡◌, ◌≢◌, length, MatchOption};
+ghost use Rattle.std.specs.Iterator.{at_most};
+ghost use Rattle.std.specs.List.{slice_get};
+ghost use Rattle.update_text.specs.Lines.{IsRow, IsRow-prop, NextField, fields_of};
+ghost use Rattle.update_text.specs.Steps.{Started, to_read};
 
 use crate::fields::Field;
 use crate::parts::{Part, Parts};
@@ -20,38 +22,51 @@ impl<'a> LineReader<'a> {
             fields: Parts::of(line.bytes, line.at, b';'),
         }
     }
+}
 
-    /// The next field, or none after the last one.
-    pub fn next_field(&mut self) -> Option<Field<'a>>
-        ensures { NextField self.old result self.new }
+impl<'a> Iterator for LineReader<'a> {
+    type Item = Field<'a>;
+
+    ghost next_gives = { NextField };
+
+    ghost remaining = { λ s. at_most (to_read s.fields) };
+
+    fn next(&mut self) -> Option<Field<'a>> {
+        let part = self.fields.next()?;
+        Some(Field::of(part.bytes, part.at))
+    }
+}
+
+/// A line of four fields, with these fields.
+#[derive(Clone, Copy)]
+pub struct Row<'a> {
+    pub line: Part<'a>,
+    pub fields: [Field<'a>; 4],
+    ghost each: { IsRow line fields } by { IsRow-prop line fields },
+}
+
+impl<'a> Row<'a> {
+    /// The row of a line, if it has exactly four fields.
+    pub fn of(line: Part<'a>) -> Option<Row<'a>>
+        ensures { MatchOption result (length (fields_of line.entry) ≢ 4) (λ row. row.line ≡ line.entry) }
     {
-        match self.fields.next_part() {
-            Some(part) => Some(Field::of(part.bytes, part.at)),
-            None => None,
+        let mut reader = LineReader::new(line);
+        let fields = [
+            reader.next()?,
+            reader.next()?,
+            reader.next()?,
+            reader.next()?,
+        ];
+        match reader.next() {
+            Some(_) => None,
+            None => Some(Row { line, fields }),
         }
     }
-}
 
-/// The field at a place of a line, counted from 0; none past the last one.
-pub fn field_at<'a>(line: Part<'a>, place: usize) -> Option<Field<'a>>
-    ensures { MatchOption result (length (fields_of line.entry) ≤ place) (λ f. FieldAt line.entry place f) }
-{
-    let mut reader = LineReader::new(line);
-    for _passed in 0..place {
-        let _ = reader.next_field();
+    /// The field at a place.
+    pub fn field(&self, place: usize) -> Option<Field<'a>>
+        ensures { result ≡ slice_get self.now.fields place }
+    {
+        self.fields.get(place).copied()
     }
-    reader.next_field()
-}
-
-/// Whether a line has exactly so many fields.
-pub fn has_fields(line: Part, count: usize) -> bool
-    ensures { result ≡ (length (fields_of line.entry) == count) }
-{
-    if count == 0 {
-        return false;
-    }
-    if field_at(line, count).is_some() {
-        return false;
-    }
-    field_at(line, count - 1).is_some()
 }

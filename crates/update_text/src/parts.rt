@@ -1,22 +1,16 @@
-ghost use Rattle.std.specs.Prelude.{◌≡◌};
-ghost use Rattle.update_text.specs.Cuts.{Splits};
-ghost use Rattle.update_text.specs.Steps.{NextPart, Started, is_end};
+ghost use Rattle.std.specs.Prelude.{◌≡◌, ◌==◌};
+ghost use Rattle.std.specs.Iterator.{at_most};
+ghost use Rattle.std.specs.List.{position};
+ghost use Rattle.update_text.specs.Steps.{NextPart, Started, is_end, to_read};
 
 /// A part of a text: its bytes, the byte of the text where it begins, and whether a mark follows it.
+/// That its end can be counted is a premise of the contracts (`Counted`): as an invariant it would ask more of who writes a part.
 #[derive(Clone, Copy)]
 pub struct Part<'a> {
     pub bytes: &'a [u8],
     pub at: usize,
+    /// A flag and no `Option`: the part before it is there with and without a mark.
     pub marked: bool,
-}
-
-/// Takes a text apart at a mark: what is left of it, and the byte where the text ends.
-#[derive(Drop)]
-pub struct Parts<'a> {
-    mark: u8,
-    rest: &'a [u8],
-    more: bool,
-    end: usize,
 }
 
 impl Part<'_> {
@@ -28,15 +22,22 @@ impl Part<'_> {
     }
 }
 
-/// What stands before the first mark, and the rest from the mark on.
-fn split<'a>(bytes: &'a [u8], mark: u8) -> (&'a [u8], &'a [u8])
-    ensures { Splits mark bytes.now result.0.now result.1.now }
+/// Takes a text apart at a mark: hands out one part after the other.
+/// A text without a mark is one part, be it empty or not.
+#[derive(Drop)]
+pub struct Parts<'a> {
+    mark: u8,
+    /// What is left of the text; none after the last part.
+    rest: Option<&'a [u8]>,
+    /// The byte where the text ends.
+    end: usize,
+}
+
+/// The first place of a mark among bytes.
+fn place_of(mark: u8, bytes: &[u8]) -> Option<usize>
+    ensures { result ≡ position (λ b. b == mark) bytes.now }
 {
-    let mut n = 0;
-    while n < bytes.len() && bytes[n] != mark {
-        n += 1;
-    }
-    (&bytes[0..n], &bytes[n..])
+    bytes.iter().position(|byte| *byte == mark)
 }
 
 impl<'a> Parts<'a> {
@@ -46,24 +47,40 @@ impl<'a> Parts<'a> {
     {
         Parts {
             mark,
-            rest: bytes,
-            more: true,
+            rest: Some(bytes),
             end: at.saturating_add(bytes.len()),
         }
     }
+}
 
-    /// The next part, or none after the last one. A text without a mark is one part, be it empty or not.
-    pub fn next_part(&mut self) -> Option<Part<'a>>
-        ensures { NextPart self.old result self.new }
-    {
-        if !self.more {
-            return None;
+impl<'a> Iterator for Parts<'a> {
+    type Item = Part<'a>;
+
+    ghost next_gives = { NextPart };
+
+    ghost remaining = { λ s. at_most (to_read s) };
+
+    #[tactic(auto, using(crate::proofs::Cutting::took_marked, crate::proofs::Cutting::took_last))]
+    fn next(&mut self) -> Option<Part<'a>> {
+        let rest = self.rest?;
+        let at = self.end.saturating_sub(rest.len());
+        match place_of(self.mark, rest) {
+            Some(n) => {
+                self.rest = Some(&rest[n + 1..]);
+                Some(Part {
+                    bytes: &rest[..n],
+                    at,
+                    marked: true,
+                })
+            }
+            None => {
+                self.rest = None;
+                Some(Part {
+                    bytes: rest,
+                    at,
+                    marked: false,
+                })
+            }
         }
-        let at = self.end.saturating_sub(self.rest.len());
-        let (bytes, after) = split(self.rest, self.mark);
-        let marked = !after.is_empty();
-        self.rest = &after[after.len().min(1)..];
-        self.more = marked;
-        Some(Part { bytes, at, marked })
     }
 }

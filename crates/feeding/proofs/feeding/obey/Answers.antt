@@ -1,63 +1,23 @@
-use Rattle.std.proofs.Common.{Err, refl, ap, ◌∙◌}
+use Rattle.std.proofs.Common.{Err, ap, ◌∙◌}
 use Rattle.std.proofs.lemmas.Result.{err_from_is_err_and}
-use Rattle.feeding.specs.Obeying.Obeys.{senseless}
-use Rattle.feeding.proofs.Obeying.{named, added, not_added, taken_off, not_taken_off}
+use Rattle.feeding.specs.Obeying.{unmeant}
+use Rattle.feeding.proofs.Obeying.{added, not_meant, taken_off}
 use Rattle.feeding.proofs.feeding.obey.Goals as goal
 
-pub returns-in_err-proposal-in-Add : goal.returns-in_err-proposal-in-Add
-returns-in_err-proposal-in-Add g c =
+pub returns-in_err-new-in-Add-clause-exact : goal.returns-in_err-new-in-Add-clause-exact
+returns-in_err-new-in-Add-clause-exact g c = λ sound.
     let p = err_from_is_err_and c.from_residual.result c.from_residual.ensures.1 in
-    record {
-      serves = λ s. s;
-      exact = λ s. named _ _ c.in-Add.is (p.1 ∙ ap Err p.2) (senseless c.in_err-proposal-in-Add.ensures);
-    }
+    not_meant _ c.args.order c.from_residual.result _ (p.1 ∙ ap Err p.2) (ap unmeant c.in-Add.is ∙ c.in_err-new-in-Add.ensures)
 
-pub returns-in_err-propose-in-Add : goal.returns-in_err-propose-in-Add
-returns-in_err-propose-in-Add g c =
-    let p = err_from_is_err_and c.from_residual-in_err-propose-in-Add.result c.from_residual-in_err-propose-in-Add.ensures.1 in
-    let made = c.in_ok-proposal-in-Add.ensures in
-    record {
-      serves = c.propose.ensures.serves;
-      exact = λ s.
-          named _ _ c.in-Add.is (p.1 ∙ ap Err p.2)
-          (not_added _ _ c.in-Add.a c.in-Add.b c.in-Add.saving c.in_ok-proposal-in-Add.proposal made.1 _ (c.in_err-propose-in-Add.ensures.exact s));
-    }
+pub returns-in_err-new-in-Off-clause-exact : goal.returns-in_err-new-in-Off-clause-exact
+returns-in_err-new-in-Off-clause-exact g c = λ sound.
+    let p = err_from_is_err_and c.from_residual-in_err-new-in-Off.result c.from_residual-in_err-new-in-Off.ensures.1 in
+    not_meant _ c.args.order c.from_residual-in_err-new-in-Off.result _ (p.1 ∙ ap Err p.2) (ap unmeant c.in-Off.is ∙ c.in_err-new-in-Off.ensures)
 
-pub returns-in_err-pair-in-Off : goal.returns-in_err-pair-in-Off
-returns-in_err-pair-in-Off g c =
-    let p = err_from_is_err_and c.from_residual-in_err-pair-in-Off.result c.from_residual-in_err-pair-in-Off.ensures.1 in
-    record {
-      serves = λ s. s;
-      exact = λ s. named _ _ c.in-Off.is (p.1 ∙ ap Err p.2) (senseless c.in_err-pair-in-Off.ensures);
-    }
+pub returns-in_ok-new-in-Add-clause-exact : goal.returns-in_ok-new-in-Add-clause-exact
+returns-in_ok-new-in-Add-clause-exact g c = λ sound.
+    added _ _ c.args.order c.in-Add.a c.in-Add.b c.in-Add.saving c.in_ok-new-in-Add.field-0 c.add.result c.in-Add.is c.in_ok-new-in-Add.ensures.1 (c.add.ensures.exact sound)
 
-pub returns-in_err-withdraw-in-Off : goal.returns-in_err-withdraw-in-Off
-returns-in_err-withdraw-in-Off g c =
-    let p = err_from_is_err_and c.from_residual-in_err-withdraw-in-Off.result c.from_residual-in_err-withdraw-in-Off.ensures.1 in
-    let made = c.in_ok-pair-in-Off.ensures in
-    record {
-      serves = c.withdraw.ensures.serves;
-      exact = λ s.
-          named _ _ c.in-Off.is (p.1 ∙ ap Err p.2)
-          (not_taken_off _ _ c.in-Off.a c.in-Off.b c.in_ok-pair-in-Off.pair made.1 _ (c.in_err-withdraw-in-Off.ensures.exact s));
-    }
-
-pub returns-in_ok-propose-in-Add : goal.returns-in_ok-propose-in-Add
-returns-in_ok-propose-in-Add g c =
-    let made = c.in_ok-proposal-in-Add.ensures in
-    record {
-      serves = c.propose.ensures.serves;
-      exact = λ s.
-          named _ _ c.in-Add.is refl
-          (added _ _ c.in-Add.a c.in-Add.b c.in-Add.saving c.in_ok-proposal-in-Add.proposal made.1 _ (c.in_ok-propose-in-Add.ensures.exact s));
-    }
-
-pub returns-in_ok-withdraw-in-Off : goal.returns-in_ok-withdraw-in-Off
-returns-in_ok-withdraw-in-Off g c =
-    let made = c.in_ok-pair-in-Off.ensures in
-    record {
-      serves = c.withdraw.ensures.serves;
-      exact = λ s.
-          named _ _ c.in-Off.is refl
-          (taken_off _ _ c.in-Off.a c.in-Off.b c.in_ok-pair-in-Off.pair made.1 _ (c.in_ok-withdraw-in-Off.ensures.exact s));
-    }
+pub returns-in_ok-new-in-Off-clause-exact : goal.returns-in_ok-new-in-Off-clause-exact
+returns-in_ok-new-in-Off-clause-exact g c = λ sound.
+    taken_off _ _ c.args.order c.in-Off.a c.in-Off.b c.in_ok-new-in-Off.field-0 c.take_off.result c.in-Off.is c.in_ok-new-in-Off.ensures.1 (c.take_off.ensures.exact sound)

@@ -1,17 +1,17 @@
-use Rattle.std.proofs.Common.{ap, ◌∙◌}
-use Rattle.matching.specs.Meanings.{Meaning}
+use Rattle.std.proofs.Common.{◌≡◌, Result, sym, ap, ◌∙◌, subst, rules}
 use Rattle.feeding.specs.Obeying.{flaw_of}
-use Rattle.feeding.proofs.Obeying.{line_stopped}
+use Rattle.feeding.specs.Texts.{ObeyedLine}
+use Rattle.update_text.specs.declared.orders.Flaw.{Flaw}
+use Rattle.feeding.proofs.Obeying.{flawed_by, line_obeyed}
 use Rattle.feeding.proofs.feeding.obey_line.Goals as goal
 
-pub returns-in-Err : goal.returns-in-Err
-returns-in-Err g c =
+pub returns-clause-exact : goal.returns-clause-exact
+returns-clause-exact g c = λ sound counted placing.
+    let line = c.args.line in
     let o = c.in_ok-order.order in
-    let e = c.in-Err.refusal in
-    record {
-      serves = c.obey.ensures.serves;
-      exact = λ s counted placing.
-          line_stopped c.args.columns c.args.line _ _ o e c.flaw_of.result (c.in_ok-order.ensures counted placing) (c.in-Err.ensures.exact s)
-          (λ same. c.flaw_of.ensures
-          ∙ ap (λ n. flaw_of n c.args.line.at o e) (c.meters.ensures ∙ c.size.ensures (c.obey.ensures.serves s).keeper ∙ ap (λ (x : Meaning). x.size) same));
-    }
+    let m = g.W.Way.meaning c.args.recipient.now in
+    let is : c.map_err.result ≡ flawed_by (flaw_of c.meters-meters.result line.at o) c.obey.result = search rules in
+    let size = c.meters-meters.ensures ∙ c.size.ensures sound in
+    subst (λ (r : Result (Unit {0}) Flaw). ObeyedLine c.args.columns line m r (g.W.Way.meaning c.obey.new.recipient))
+    (sym (is ∙ ap (λ n. flawed_by (flaw_of n line.at o) c.obey.result) size))
+    (line_obeyed c.args.columns line m _ o c.obey.result (c.in_ok-order.ensures counted placing) (c.obey.ensures.exact sound))
