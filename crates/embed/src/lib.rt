@@ -8,8 +8,9 @@ ghost use Rattle.embed.specs.Embedding.{Reported, placed};
 use listing::report;
 use std::alloc::Global;
 
-/// Writes the report that `pairs` prints for an update text into a row of bytes, from its start, and answers how many bytes it has.
-/// A row that is too short is left as it is. Answers 0, and leaves the row, for want of memory.
+/// Writes the report that `pairs` prints for an update text into a row of bytes, from its start, and answers how many bytes it has:
+/// C lends bytes and reads a count.
+/// A row that is too short is left as it is. Answers 0, and leaves the row, for want of memory: C has no `Result`.
 #[unsafe(no_mangle)]
 pub extern "C" fn cupboarddove_report(heap: Global, text: &[u8], out: &mut [u8]) -> usize
     ensures { Reported text.now out.old result out.new }

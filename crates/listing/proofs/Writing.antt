@@ -27,13 +27,6 @@ line_more out out' whole (low ∷ high ∷ saving ∷ rest) le is h =
     ap (λ (xs : List ℕ). (out ++ pair_line low high saving) ++ numbers_text xs) all ∙
     append_assoc out (pair_line low high saving) (numbers_text rest) ∙ h
 
--- what is written one part after the other
-pub in_parts : (first pairs printed ns : List ℕ) (fed : Result ℕ Stop) → first ≡ heading → pairs ≡ first ++ numbers_text ns → printed ≡ pairs ++ stop_text fed →
-    printed ≡ heading ++ (numbers_text ns ++ stop_text fed)
-in_parts first pairs printed ns fed a b c =
-    c ∙ ap (λ (xs : List ℕ). xs ++ stop_text fed) (b ∙ ap (λ (xs : List ℕ). xs ++ numbers_text ns) a) ∙
-    append_assoc heading (numbers_text ns) (stop_text fed)
-
 -- the numbers of a list of pairs are written as the lines of the pairs
 pub listed_text : (K : List Proposal) → numbers_text (listing K) ≡ pairs_text K
 listed_text [] = refl
@@ -52,9 +45,9 @@ module _ (m : Meaning) (row : List ℕ) (h : Lawful m) (long : length row ≡ 38
 
   -- and its numbers then stand in front
   pub in_front : (r : Result ℕ Refusal) (k : ℕ) (row' : List ℕ) → r ≡ count_of m (length row) → row' ≡ listed_in m row → r ≡ Ok k →
-      take (3 * k - 0) row' ≡ listing (kept_of m)
+      take (3 * k) row' ≡ listing (kept_of m)
   in_front r k row' is written ok =
-      let n = 3 * k - 0 in
+      let n = 3 * k in
       let xs = listing (kept_of m) in
       let count : k ≡ length (kept_of m) = let e : r ≡ Ok (length (kept_of m)) = listed r is in cc in
       let places : length xs ≡ n = omega (arith, length_listing (kept_of m)) in

@@ -1,10 +1,9 @@
 -- The text that is printed for an update text.
 use Rattle.std.specs.Prelude.{◌≡◌, ℕ, List, [], ◌∷◌, ◌++◌, Ok, Err, codes, decimal, Result}
 use Rattle.std.specs.List.{flat_map}
-use Rattle.proposals.specs.Refusals.{number_of}
 use Rattle.proposals.specs.declared.proposals.Proposal.{Proposal}
 use Rattle.matching.specs.Meanings.{Meaning, bare, kept_of}
-use Rattle.feeding.specs.Texts.{Feeding}
+use Rattle.feeding.specs.Texts.{Feeding, stop_line}
 use Rattle.feeding.specs.declared.feeding.Stop.{Stop}
 
 -- a pair's line: the lower meter, the higher one and what the two save, with a `;` between two of them, and a line feed
@@ -28,7 +27,7 @@ numbers_text (low ∷ high ∷ saving ∷ rest) = pair_line low high saving ++ n
 -- where the text was stopped at: the line, the byte and the refusal's number; nothing if all its lines were done
 abbrev pub stop_text : Result ℕ Stop → List ℕ
 stop_text (Ok n) = []
-stop_text (Err s) = codes "stopped;" ++ (decimal s.line ++ 59 ∷ (decimal s.byte ++ 59 ∷ (decimal (number_of s.refusal.reason) ++ 10 ∷ [])))
+stop_text (Err s) = stop_line s ++ 10 ∷ []
 
 -- the names of the columns
 abbrev pub heading : List ℕ

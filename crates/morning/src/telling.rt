@@ -1,7 +1,6 @@
-use crate::story;
-use crate::story::Event;
 use board::{Answer, Call};
 use proposals::Refusal;
+use story::Event;
 
 /// Tells of a form that is no proposal or no pair.
 pub fn tell_form(rt: &HostRuntime, event: &Event) -> anyhow::Result<()> {
@@ -43,37 +42,36 @@ pub fn tell_call(rt: &HostRuntime, call: &Call) -> anyhow::Result<()> {
 }
 
 /// Tells what a call answered.
-pub fn tell_answer(rt: &HostRuntime, answer: &Answer) -> anyhow::Result<()> {
+pub fn tell_answer(rt: &HostRuntime, answer: &Result<Answer, Refusal>) -> anyhow::Result<()> {
     match answer {
-        Answer::Counts {
-            altered,
-            came_or_went,
-        } => println!(rt;
+        Ok(
+            Answer::Counts {
+                altered,
+                came_or_went,
+            },
+        ) => println!(rt;
             "  Accepted. Kept pairs altered: {altered}. Chosen pairs that came or went: {came_or_went}."
         )?,
-        Answer::Partner(Some((other, saving))) => {
+        Ok(Answer::Partner(Some((other, saving)))) => {
             println!(rt; "  It is paired with {other}, which saves {saving}.")?;
         }
-        Answer::Partner(None) => rt.println("  It is paired with none.")?,
-        Answer::Saved(sum) => println!(rt; "  Together they save {sum} bytes a day.")?,
-        Answer::List { pairs, row: _ } => println!(rt; "  Pairs written: {pairs}.")?,
-        Answer::Refused(refusal) => tell_refusal(rt, *refusal)?,
+        Ok(Answer::Partner(None)) => rt.println("  It is paired with none.")?,
+        Ok(Answer::Saved(sum)) => println!(rt; "  Together they save {sum} bytes a day.")?,
+        Ok(Answer::List { pairs, row: _ }) => println!(rt; "  Pairs written: {pairs}.")?,
+        Err(refusal) => tell_refusal(rt, *refusal)?,
     }
     Ok(())
 }
 
 /// Tells why something was refused.
 pub fn tell_refusal(rt: &HostRuntime, refusal: Refusal) -> anyhow::Result<()> {
-    let number = refusal.number();
-    let why = story::why(refusal.reason);
-    let finder = story::finder(refusal.layer);
-    println!(rt; "  Refused with number {number}, found by the {finder}: {why}.")?;
+    println!(rt; "  Refused with {refusal}.")?;
     Ok(())
 }
 
 /// Tells which pairs are kept, from a list of them.
-pub fn tell_pairs(rt: &HostRuntime, list: &Answer) -> anyhow::Result<()> {
-    let Answer::List { pairs, row } = list else {
+pub fn tell_pairs(rt: &HostRuntime, list: &Result<Answer, Refusal>) -> anyhow::Result<()> {
+    let Ok(Answer::List { pairs, row }) = list else {
         return Ok(());
     };
     rt.print("  Kept:")?;

@@ -1,12 +1,10 @@
-//! Works through a morning of one group of meters, and tells what happens in a planner's words.
+//! Works through a morning of one group of meters over a keeper alone, and tells what happens in a planner's words.
 #![tactic(auto)]
 
-mod story;
-
-use combining::combine;
+use combining::{combine, kept_at};
 use keepers::{Keeper, Patient, Reader};
 use proposals::{GroupSize, Pair, Proposal, Refusal};
-use story::Event;
+use story::{EVENTS, Event, METERS, ROOM};
 
 fn main(rt: HostRuntime) -> anyhow::Result<()> {
     tell(&rt)
@@ -14,42 +12,42 @@ fn main(rt: HostRuntime) -> anyhow::Result<()> {
 
 /// Opens the group and tells its whole story.
 fn tell(rt: &HostRuntime) -> anyhow::Result<()> {
-    let Ok(size) = GroupSize::new(story::METERS) else {
+    let Ok(size) = GroupSize::new(METERS) else {
         rt.println("No group has so many meters.")?;
         return Ok(());
     };
-    let mut table = [Proposal::FILLER; story::ROOM];
+    let mut table = [Proposal::FILLER; ROOM];
     let mut keeper = Patient::new(size, &mut table);
     let meters = keeper.size().meters();
     let room = keeper.capacity();
     println!(rt;
         "A group of {meters} meters opens. A patient keeper has room for {room} open proposals."
     )?;
-    for event in &story::EVENTS {
+    for event in &EVENTS {
         tell_event(rt, &mut keeper, event)?;
-        tell_pairs(rt, &keeper)?;
     }
     let open = keeper.open_count();
     println!(rt; "The morning ends with {open} open proposals.")?;
     Ok(())
 }
 
-/// Does what an event asks for, and tells what came of it.
+/// Does what an event asks for, and tells what came of it. Nobody asks or prints in this telling.
 fn tell_event<K: Keeper>(rt: &HostRuntime, keeper: &mut K, event: &Event) -> anyhow::Result<()> {
-    match event {
+    let done = match event {
         Event::File { a, b, saving } => {
             println!(rt;
                 "A scout files: meters {a} and {b} could share a time column, saving {saving} bytes a day."
             )?;
-            let done = file(keeper, *a, *b, *saving);
-            tell_outcome(rt, done)
+            file(keeper, *a, *b, *saving)
         }
         Event::Lapse { a, b } => {
             println!(rt; "A scout lapses the proposal for meters {a} and {b}.")?;
-            let done = lapse(keeper, *a, *b);
-            tell_outcome(rt, done)
+            lapse(keeper, *a, *b)
         }
-    }
+        Event::Ask { .. } | Event::Print { .. } => return Ok(()),
+    };
+    tell_outcome(rt, done)?;
+    tell_pairs(rt, keeper)
 }
 
 /// Opens a proposal, and answers its level.
@@ -71,30 +69,23 @@ fn lapse<K: Keeper>(keeper: &mut K, a: u32, b: u32) -> Result<u32, Refusal> {
 fn tell_outcome(rt: &HostRuntime, done: Result<u32, Refusal>) -> anyhow::Result<()> {
     match done {
         Ok(level) => println!(rt; "  Accepted, at level {level}.")?,
-        Err(refusal) => {
-            let number = refusal.number();
-            let why = story::why(refusal.reason);
-            let finder = story::finder(refusal.layer);
-            println!(rt; "  Refused with number {number}, found by the {finder}: {why}.")?;
-        }
+        Err(refusal) => println!(rt; "  Refused with {refusal}.")?,
     }
     Ok(())
 }
 
 /// Tells which pairs static combining keeps now, and what they save together.
 fn tell_pairs<R: Reader>(rt: &HostRuntime, reader: &R) -> anyhow::Result<()> {
-    let mut row = [0; story::METERS as usize];
-    let _ = combine(reader, &mut row);
+    let mut row = [0; METERS as usize];
     let mut saved = 0u32;
     rt.print("  Kept:")?;
-    for (meter, partner) in (0..story::METERS).zip(&row) {
-        if meter < *partner {
-            if let Ok(pair) = Pair::new(meter, *partner) {
-                if let Some(saving) = reader.saving(pair) {
-                    print!(rt; " {meter} with {partner} ({saving}),")?;
-                    saved = saved.saturating_add(saving);
-                }
-            }
+    if combine(reader, &mut row).is_ok() {
+        for kept in (0..METERS).filter_map(|low| kept_at(reader, &row, low)) {
+            let low = kept.low();
+            let high = kept.high();
+            let saving = kept.saving();
+            print!(rt; " {low} with {high} ({saving}),")?;
+            saved = saved.saturating_add(saving);
         }
     }
     println!(rt; " together {saved} bytes a day.")?;

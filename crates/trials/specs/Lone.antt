@@ -5,4 +5,4 @@ use Rattle.trials.specs.declared.lone.Lone.{Lone}
 
 -- what it holds is open and chosen
 abbrev pub held : Lone → Meaning
-held k = record { size = k.meters; capacity = 1; opened = option_to_list k.slot; chosen = option_to_list k.slot }
+held k = record { size = k.size.meters; capacity = 1; opened = option_to_list k.slot; chosen = option_to_list k.slot }

@@ -1,45 +1,32 @@
 //! The worked figures of the levels, of the two keepers and of combining, tried on the code.
 use crate::lone::Lone;
-use combining::combine;
+use combining::{combine, kept_at};
 use keepers::{Keeper, Ordered, Patient, Reader};
-use proposals::{GroupSize, Pair, Proposal, Refusal};
+use proposals::{GroupSize, METERS, Pair, Proposal, Refusal};
 
 /// What the pairs that combining keeps save together.
 fn saved<R: Reader>(reader: &R) -> u32 {
-    let mut row = [0; 256];
-    let _ = combine(reader, &mut row);
-    let mut sum = 0u32;
-    for (meter, partner) in (0..256u32).zip(&row) {
-        if meter < *partner {
-            if let Ok(pair) = Pair::new(meter, *partner) {
-                sum = sum.saturating_add(reader.saving(pair).unwrap_or(0));
-            }
-        }
+    let mut row = [0; METERS as usize];
+    if combine(reader, &mut row).is_err() {
+        return 0;
     }
-    sum
+    (0..METERS)
+        .filter_map(|low| kept_at(reader, &row, low))
+        .fold(0, |sum: u32, kept| sum.saturating_add(kept.saving()))
 }
 
-/// Opens a proposal; 0, or the number of the refusal.
+/// Opens a proposal; 0, or the number of the refusal, as the figures are written.
 fn put<K: Keeper>(keeper: &mut K, a: u32, b: u32, saving: u32) -> u32 {
-    match Proposal::new(a, b, saving) {
-        Ok(proposal) => number(keeper.put(proposal)),
-        Err(refusal) => refusal.number(),
-    }
+    number(Proposal::new(a, b, saving).and_then(|proposal| keeper.put(proposal)))
 }
 
 /// Closes a pair; 0, or the number of the refusal.
 fn take<K: Keeper>(keeper: &mut K, a: u32, b: u32) -> u32 {
-    match Pair::new(a, b) {
-        Ok(pair) => number(keeper.take(pair)),
-        Err(refusal) => refusal.number(),
-    }
+    number(Pair::new(a, b).and_then(|pair| keeper.take(pair)))
 }
 
 fn number(answer: Result<(), Refusal>) -> u32 {
-    match answer {
-        Ok(()) => 0,
-        Err(refusal) => refusal.number(),
-    }
+    answer.map_or_else(Refusal::number, |()| 0)
 }
 
 #[test]

@@ -1,7 +1,6 @@
 //! A keeper that a buyer might write, against the traits alone: it has room for one proposal, and chooses it.
-ghost use Rattle.std.specs.Prelude.{◌≡◌, ◌<◌, ◌≤◌, MatchResult};
-ghost use Rattle.proposals.specs.declared.refusals.Reason.TheVariants.{MeterOutsideGroup};
-ghost use Rattle.matching.specs.Meanings.{Lawful, bare, found};
+ghost use Rattle.std.specs.Prelude.{◌≡◌};
+ghost use Rattle.matching.specs.Meanings.{Lawful, bare};
 ghost use Rattle.trials.specs.Lone.{held};
 
 use keepers::{Keeper, Reader};
@@ -10,7 +9,7 @@ use proposals::{GroupSize, Layer, Pair, Proposal, Reason, Refusal};
 /// A keeper of at most one proposal.
 #[derive(Drop)]
 pub struct Lone {
-    meters: u32,
+    size: GroupSize,
     slot: Option<Proposal>,
 }
 
@@ -20,29 +19,7 @@ impl Lone {
         ensures means { held result ≡ bare size.meters 1 }
         ensures lawful { Lawful (held result) }
     {
-        Lone {
-            meters: size.meters(),
-            slot: None,
-        }
-    }
-
-    /// The refusal of a pair for which a meter is outside the group.
-    fn check(&self, pair: Pair) -> Result<(), Refusal>
-        ensures { MatchResult result (λ _. pair.high < self.now.meters) (λ e. (e ≡ found MeterOutsideGroup) × (self.now.meters ≤ pair.high)) }
-    {
-        if pair.high() >= self.meters {
-            return Err(refuse(Reason::MeterOutsideGroup));
-        }
-        Ok(())
-    }
-}
-
-fn refuse(reason: Reason) -> Refusal
-    ensures { result ≡ found reason }
-{
-    Refusal {
-        reason,
-        layer: Layer::Keeper,
+        Lone { size, slot: None }
     }
 }
 
@@ -54,7 +31,7 @@ impl Reader for Lone {
     ghost lawful = { λ k ok. ok };
 
     fn size(&self) -> GroupSize {
-        GroupSize::nearest(self.meters)
+        self.size
     }
 
     fn capacity(&self) -> u32 {
@@ -62,57 +39,45 @@ impl Reader for Lone {
     }
 
     fn open_count(&self) -> u32 {
-        if self.slot.is_some() { 1 } else { 0 }
+        u32::from(self.slot.is_some())
     }
 
     fn saving(&self, pair: Pair) -> Option<u32> {
-        match self.slot {
-            Some(proposal) => {
-                if proposal.low() == pair.low() && proposal.high() == pair.high() {
-                    Some(proposal.saving())
-                } else {
-                    None
-                }
-            }
-            None => None,
-        }
+        let proposal = self.slot?;
+        (proposal.pair() == pair).then_some(proposal.saving())
     }
 
     fn mate(&self, meter: u32, level: u32) -> Option<u32> {
-        match self.slot {
-            Some(proposal) => {
-                if proposal.level() != level {
-                    None
-                } else if proposal.low() == meter {
-                    Some(proposal.high())
-                } else if proposal.high() == meter {
-                    Some(proposal.low())
-                } else {
-                    None
-                }
-            }
-            None => None,
+        let proposal = self.slot?;
+        if proposal.level() != level {
+            None
+        } else if proposal.low() == meter {
+            Some(proposal.high())
+        } else if proposal.high() == meter {
+            Some(proposal.low())
+        } else {
+            None
         }
     }
 }
 
 impl Keeper for Lone {
     fn put(&mut self, proposal: Proposal) -> Result<(), Refusal> {
-        self.check(proposal.pair())?;
+        self.size.admit(proposal.high(), Layer::Keeper)?;
         if self.saving(proposal.pair()).is_some() {
-            return Err(refuse(Reason::AlreadyOpen));
+            return Err(Reason::AlreadyOpen.found_by(Layer::Keeper));
         }
         if self.slot.is_some() {
-            return Err(refuse(Reason::KeeperFull));
+            return Err(Reason::KeeperFull.found_by(Layer::Keeper));
         }
         self.slot = Some(proposal);
         Ok(())
     }
 
     fn take(&mut self, pair: Pair) -> Result<(), Refusal> {
-        self.check(pair)?;
+        self.size.admit(pair.high(), Layer::Keeper)?;
         if self.saving(pair).is_none() {
-            return Err(refuse(Reason::NotOpen));
+            return Err(Reason::NotOpen.found_by(Layer::Keeper));
         }
         self.slot = None;
         Ok(())

@@ -1,12 +1,12 @@
 //! What `pairs` prints for one text after the other.
 use crate::keeper_report::report_over_a_keeper;
 use board::Board;
+use feeding::{Boarded, Straight, feed};
 use keepers::{Patient, Reader};
 use listing::report;
 use proposals::{GroupSize, Layer, Proposal};
 use std::process::Abort;
 use std::test::Fail;
-use update_text::feed;
 
 /// A text, and what `pairs` prints for it after the heading.
 struct Case {
@@ -394,15 +394,13 @@ fn faults_at_their_byte(rt: HostRuntime) -> Result<(), Fail> {
 }
 
 /// A text of 32,750 bytes that opens a proposal and then closes and opens it time after time, and so many bytes more.
-fn long_text(rt: &HostRuntime, more: u32) -> Result<Vec<u8>, Fail> {
+fn long_text(rt: &HostRuntime, more: usize) -> Result<Vec<u8>, Fail> {
     let mut text = Vec::new(rt.alloc());
     text.extend_from_slice(b"act;a;b;saving\nadd;1;2;999999\n")?;
     for _ in 0..1636 {
         text.extend_from_slice(b"off;1;2;-\nadd;1;2;3\n")?;
     }
-    for _ in 0..more {
-        text.push(b'x')?;
-    }
+    text.resize(text.len().saturating_add(more), b'x')?;
     Ok(text)
 }
 
@@ -432,9 +430,7 @@ fn too_long_text(rt: HostRuntime) -> Result<(), Fail> {
 fn every_byte_value(rt: HostRuntime) -> Result<(), Fail> {
     let mut text = Vec::new(rt.alloc());
     text.extend_from_slice(b"act;a;b;saving\nadd;3;4;5\n")?;
-    for byte in 0..=255u8 {
-        text.push(byte)?;
-    }
+    text.extend(0..=255u8)?;
     let out = report(rt.alloc(), &text)?;
     assert!(rt; out.as_str() == "a;b;saving\n3;4;5\nstopped;3;25;12\n");
     let other = report_over_a_keeper(rt.alloc(), &text)?;
@@ -446,7 +442,7 @@ fn every_byte_value(rt: HostRuntime) -> Result<(), Fail> {
 fn full_keeper(rt: HostRuntime) -> Result<(), Fail> {
     let mut table = [Proposal::FILLER; 1];
     let mut keeper = Patient::new(GroupSize::nearest(5), &mut table);
-    match feed(&mut keeper, b"act;a;b;saving\nadd;0;1;5\nadd;2;3;5\n") {
+    match feed::<Straight, _>(&mut keeper, b"act;a;b;saving\nadd;0;1;5\nadd;2;3;5\n") {
         Ok(_) => Err(Fail::new("not refused")),
         Err(stop) => {
             assert_eq!(rt; stop.done, 1);
@@ -464,7 +460,7 @@ fn full_keeper(rt: HostRuntime) -> Result<(), Fail> {
 fn full_keeper_below_a_board(rt: HostRuntime) -> Result<(), Fail> {
     let mut table = [Proposal::FILLER; 1];
     let mut board = Board::open(Patient::new(GroupSize::nearest(5), &mut table));
-    match feeding::feed(&mut board, b"act;a;b;saving\nadd;0;1;5\nadd;2;3;5\n") {
+    match feed::<Boarded, _>(&mut board, b"act;a;b;saving\nadd;0;1;5\nadd;2;3;5\n") {
         Ok(_) => Err(Fail::new("not refused")),
         Err(stop) => {
             assert_eq!(rt; stop.done, 1);

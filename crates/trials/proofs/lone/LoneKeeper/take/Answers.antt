@@ -1,11 +1,8 @@
-use Rattle.std.proofs.Common.{is_some, None, sym, ap, ◌∙◌}
-use Rattle.trials.proofs.Single.{lawful_of, lone_take}
+use Rattle.std.proofs.Common.{◌<◌, is_some, sym, ap, ◌∙◌, subst}
+use Rattle.trials.proofs.Single.{lone_take}
 use Rattle.trials.proofs.lone.LoneKeeper.take.Goals as goal
 
-pub returns : goal.returns
-returns c = record {
-  sound = λ ok. lawful_of c.args.self.now.meters None ok.some ok.few tt;
-  exact = λ ok.
-      lone_take c.args.self.now.meters c.args.self.now.slot c.args.pair ok c.in_ok-check.ensures
-      (ap is_some (sym (c.saving.ensures ok)) ∙ c.if-is_none.ensures);
-}
+pub returns-clause-exact : goal.returns-clause-exact
+returns-clause-exact c = λ ok.
+    lone_take c.args.self.now.size.meters c.args.self.now.slot c.args.pair ok (subst (λ h. h < c.args.self.now.size.meters) c.high.ensures c.in_ok-admit.ensures)
+    (ap is_some (sym (c.saving.ensures ok)) ∙ c.if-is_none.ensures)
