@@ -5,8 +5,8 @@ ghost use Rattle.board.specs.Calls.{Proposes, Withdraws, mate_or, Changes, Refre
 ghost use Rattle.board.specs.Serving.{Serves};
 
 use keepers::{Keeper, Reader};
-use proposals::{LEVELS, Pair, Proposal, Refusal, level};
-use settling::{KeptPairs, Row, count_differing, row_of};
+use proposals::{LEVELS, METERS, Pair, Proposal, Refusal, level};
+use settling::{KeptPairs, Row, count_differing};
 
 /// A board holds a keeper, from opening to closing, and keeps the pairs that static combining picks from the keeper's choice.
 #[derive(Drop)]
@@ -97,5 +97,10 @@ fn refresh<R: Reader>(kept: &mut KeptPairs, reader: &R, level: u32) -> (u32, u32
 fn mates_of<R: Reader>(reader: &R, level: u32) -> Row
     ensures { R.sound reader.now → (v : ℕ) → v < 256 → slice_index result v ≡ mate_or (R.meaning reader.now) level v }
 {
-    row_of(|meter| reader.mate(meter, level))
+    // Not by a function of `settling` over a closure: a public one would have to ask that its closure may be called.
+    let mut row = [0; METERS as usize];
+    for meter in 0..METERS {
+        row[meter as usize] = reader.mate(meter, level).unwrap_or(meter);
+    }
+    row
 }

@@ -6,4 +6,4 @@ mod places;
 mod rows;
 
 pub use kept_pairs::KeptPairs;
-pub use rows::{Row, count_differing, row_of};
+pub use rows::{Row, count_differing};

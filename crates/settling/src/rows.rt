@@ -15,7 +15,7 @@ use std::array;
 pub type Row = [u32; METERS as usize];
 
 /// The row of the partners that a function gives.
-pub fn row_of<F: Fn(u32) -> Option<u32>>(partner: F) -> Row
+fn row_of<F: Fn(u32) -> Option<u32>>(partner: F) -> Row
     requires { F.IsAlwaysCallable partner }
     ensures { (v : ℕ) → v < 256 → (shown : Option ℕ) × F.post partner v shown × (slice_index result v ≡ unwrap_or shown v) }
 {
