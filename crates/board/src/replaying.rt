@@ -49,9 +49,9 @@ impl<K: Keeper> Board<K> {
             → Step (⟦<Board<K> as Serving>⟧.meaning self.old) (call_of call) (answer_of result) (⟦<Board<K> as Serving>⟧.meaning self.new) }
     {
         match call {
-            Call::Propose(proposal) => self.propose(proposal).map(counted),
-            Call::Withdraw(pair) => self.withdraw(pair).map(counted),
-            Call::Partner(meter) => self.partner(meter).map(Answer::Partner),
+            Call::Propose(proposal) => Ok(counted(self.propose(proposal)?)),
+            Call::Withdraw(pair) => Ok(counted(self.withdraw(pair)?)),
+            Call::Partner(meter) => Ok(Answer::Partner(self.partner(meter)?)),
             Call::Saved => Ok(Answer::Saved(self.saved())),
             Call::List(places) => self.listed(places),
         }

@@ -37,7 +37,7 @@ ran_fed text m r events t (stopped {n = n} few columns headed d more line at sto
 ran_fed text m r events t (finished {n = n} few columns headed d end) = ran columns text m n events t d
 
 -- what was fed keeps the law
-fed_lawfully : (text : List ℕ) (m : Meaning) (r : Result ℕ Stop) (events : List Event) (t : Meaning) → Lawful m → Fed text m r events t → Feeding text m r t
+pub fed_lawfully : (text : List ℕ) (m : Meaning) (r : Result ℕ Stop) (events : List Event) (t : Meaning) → Lawful m → Fed text m r events t → Feeding text m r t
 fed_lawfully text m r events t h f = record { events = events; fed = f; law = law_of_runs m t events h (ran_fed text m r events t f) }
 
 -- a text that is not too long, whose first line names the columns; s stands after n further lines
@@ -95,7 +95,7 @@ module _ {columns : Columns} {text : List ℕ} {n : ℕ} {s t : Parts} {p : Part
       (subst (λ (w : Meaning). Fed text m (Err (stop_after n e)) d.0 w) (sym stop.1) (stopped r.few columns r.headed d.1 (not_at_end text (n + 1) p line some) p line stop.0))
 
 -- after a line that was done there is another
-never_out : (columns : Columns) (text : List ℕ) (m t : Meaning) (n : ℕ) (events : List Event) → Headed columns text → Done columns text m n events t →
+pub never_out : (columns : Columns) (text : List ℕ) (m t : Meaning) (n : ℕ) (events : List Event) → Headed columns text → Done columns text m n events t →
     length (lines_of text) ≤ n + 1 → ⊥
 never_out columns text m t n events headed nothing out = not_last text 0 headed.0 headed.1 headed.2.fed out
 never_out columns text m t n events headed (further {n = k} d l) out = not_last text (k + 1) l.line l.there l.whole.fed out

@@ -1,5 +1,5 @@
 -- What came of an order, from what its maker and the recipient answered.
-use Rattle.std.proofs.Common.{◌≡◌, Some, Ok, Err, Result, sym, refl, subst, inr}
+use Rattle.std.proofs.Common.{◌≡◌, ℕ, Some, Ok, Err, Result, sym, refl, ap, ◌∙◌, subst, inr}
 use Rattle.proposals.specs.declared.pairs.Pair.{Pair}
 use Rattle.proposals.specs.declared.proposals.Proposal.{Proposal}
 use Rattle.proposals.specs.declared.refusals.Refusal.{Refusal}
@@ -21,7 +21,7 @@ use Rattle.feeding.specs.Texts.{ObeyedLine}
 use Rattle.feeding.specs.Obeying.Obeys.{obeyed, senseless, turned_down}
 
 -- the same under another name of the order and of the answer
-named : (m m' : Meaning) {o o' : Order} {r r' : Result (Unit {0}) Refusal} → o ≡ o' → r ≡ r' → Obeys m o' r' m' → Obeys m o r m'
+pub named : (m m' : Meaning) {o o' : Order} {r r' : Result (Unit {0}) Refusal} → o ≡ o' → r ≡ r' → Obeys m o' r' m' → Obeys m o r m'
 named m m' p q h = subst (λ (x : Order × Result (Unit {0}) Refusal). Obeys m x.0 x.1 m') (λ i. (sym p i, sym q i)) h
 
 -- an order for which there is no proposal or no pair
@@ -66,3 +66,10 @@ line_obeyed columns line m m' o (Err e) read h =
       },
       same,
     )
+
+-- the same of an answer that is made of it by the number of meters that the recipient says
+pub line_answered : (columns : Columns) (line : Part) (m m' : Meaning) (o : Order) (n : ℕ) (r : Result (Unit {0}) Refusal) (answer : Result (Unit {0}) Flaw) →
+    answer ≡ flawed_by (flaw_of n line.at o) r → n ≡ m.size → Whole line × Asks columns line o → Obeys m o r m' → ObeyedLine columns line m answer m'
+line_answered columns line m m' o n r answer is size read h =
+    subst (λ (a : Result (Unit {0}) Flaw). ObeyedLine columns line m a m') (sym (is ∙ ap (λ k. flawed_by (flaw_of k line.at o) r) size))
+    (line_obeyed columns line m m' o r read h)

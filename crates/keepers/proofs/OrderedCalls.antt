@@ -57,7 +57,7 @@ module _
 
 -- p was put into the table
 module _ (k k₁ k₂ : Store) (p : Proposal) (l : ℕ) (ok : ChosenInOrder k) (d : Opened k p k₁) (at : l ≡ level ratio p) (anew : Rechosen k₁ l k₂) where
-  put_became : Put (meaning_of k) p (ordered_put (meaning_of k) p)
+  pub put_became : Put (meaning_of k) p (ordered_put (meaning_of k) p)
   put_became = (ordered_keeps (meaning_of k) ok.order.lawful ok.rule).puts p d.may
 
   elsewhere_put : SameButAt ratio l (meaning_of k).chosen (ordered_put (meaning_of k) p).chosen
@@ -71,7 +71,7 @@ module _ (k k₁ k₂ : Store) (p : Proposal) (l : ℕ) (ok : ChosenInOrder k) (
 
 -- q was taken out of the table
 module _ (k k₁ k₂ : Store) (pair : Pair) (q : Proposal) (l : ℕ) (ok : ChosenInOrder k) (d : Closed k pair q k₁) (at : l ≡ level ratio q) (anew : Rechosen k₁ l k₂) where
-  take_became : Take (meaning_of k) pair (ordered_take (meaning_of k) pair)
+  pub take_became : Take (meaning_of k) pair (ordered_take (meaning_of k) pair)
   take_became = (ordered_keeps (meaning_of k) ok.order.lawful ok.rule).takes pair d.may
 
   -- it is the one that was open for the pair

@@ -36,7 +36,7 @@ module _
     (holds : p.high < 256 → Holds c (joined_if_free (entry k₁.choice) p))
     (ok : InOrder k)
   where
-    put_became : Put (meaning_of k) p (patient_put (meaning_of k) p)
+    pub put_became : Put (meaning_of k) p (patient_put (meaning_of k) p)
     put_became = (patient_keeps (meaning_of k) ok.lawful).puts p d.may
 
     small : p.high < 256
@@ -82,7 +82,7 @@ module _
     (parts : q.high < 256 → (r ≡ mated (entry k₁.choice) q) × Holds c (parted_if_mated (entry k₁.choice) q))
     (ok : InOrder k)
   where
-    take_became : Take (meaning_of k) pair (patient_take (meaning_of k) pair)
+    pub take_became : Take (meaning_of k) pair (patient_take (meaning_of k) pair)
     take_became = (patient_keeps (meaning_of k) ok.lawful).takes pair d.may
 
     lawful : Lawful (patient_take (meaning_of k) pair)

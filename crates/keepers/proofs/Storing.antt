@@ -56,7 +56,7 @@ module _
         (record { among = lawful.maximal.among; in_order = lawful.in_order; choice = lawful.maximal.choice })
         (λ p i. omega (arith, lawful.inside p i, lawful.few))
 
-    means : meaning_of k ≡ m
+    pub means : meaning_of k ≡ m
     means = λ i. record { size = size i; capacity = capacity i; opened = opened i; chosen = chosen i }
 
     pub stored : InOrder k × (meaning_of k ≡ m)

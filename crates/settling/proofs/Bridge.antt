@@ -210,3 +210,8 @@ copies m h k o same =
       };
       sound = o;
     }
+
+-- what is shown of a meter is its partner in what static combining keeps
+pub shown_is_kept : (k : KeptPairs) (v : ℕ) (r : Option ℕ) → r ≡ partner_shown k v → (C : List Proposal) → Copies k C →
+    r ≡ option_map (λ (x : ℕ × ℕ). x.0) (partner_in (kept ratio C) v)
+shown_is_kept k v r is C h = is ∙ partner_is k C h v

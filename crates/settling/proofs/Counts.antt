@@ -1,11 +1,11 @@
 -- The pairs that two pairings differ by, counted meter by meter.
-use Rattle.std.proofs.Common.{◌≡◌, ℕ, zero, suc, ◌+◌, ◌<◌, ◌≤◌, Bool, true, false, cond, not, ◌&&◌, eqb, ltb, List, [], ◌∷◌, ◌++◌, length, filter, sym, refl, ap, ◌∙◌, inl, inr, ⊎_elim, add-one, arith, length-append}
+use Rattle.std.proofs.Common.{◌≡◌, ℕ, zero, suc, ◌+◌, ◌*◌, ◌<◌, ◌≤◌, Bool, true, false, cond, not, ◌&&◌, eqb, ltb, List, [], ◌∷◌, ◌++◌, length, filter, sym, refl, ap, ◌∙◌, inl, inr, ⊎_elim, add-one, arith, length-append}
 use mir.Val.{bool_byte}
 use Rattle.std.proofs.lemmas.Bool.{cases_Bool, cases_eq, both_ways, eq-eqb, ne_eqb, eqb-false, and_parts, and_from, not-true, ltb-true, lt-ltb}
 use Rattle.std.proofs.lemmas.Bool.Decides.{nat_tests}
-use Rattle.std.specs.List.{range_with_len}
+use Rattle.std.specs.List.{range_with_len, sum_by}
 use Rattle.std.proofs.lemmas.List.{map-id}
-use Rattle.std.proofs.lemmas.List.Elements.{filter-append}
+use Rattle.std.proofs.lemmas.List.Sums.{sum_by-append}
 use Rattle.std.proofs.lemmas.List.FromFn.{map-range_with_len_more}
 use Rattle.proposals.specs.declared.proposals.Proposal.{Proposal}
 use Rattle.matching.specs.Lists.{◌∈◌, Pairwise}
@@ -133,16 +133,27 @@ differing_same P R Q n h =
       tally_same (lost Q P) (lost Q R) n (λ v lt. ap (λ w. ltb v (Q v) && not (eqb (Q v) w)) (h v lt)),
     )
 
--- a tally as a chain of iterators counts it
-pub tally_count : (t : ℕ → Bool) (n : ℕ) → length (filter t (range_with_len 0 n)) ≡ tally t n
-tally_count t zero = refl
-tally_count t (suc n) =
-    ap (λ k. length (filter t (range_with_len 0 k))) (sym (add-one n)) ∙ ap (λ l. length (filter t l)) more ∙
-    omega (arith, ap length (filter-append t (range_with_len 0 n) (n ∷ [])), length-append (filter t (range_with_len 0 n)) (filter t (n ∷ [])), tally_count t n, last (t n))
-  where
-    more : range_with_len 0 (n + 1) ≡ range_with_len 0 n ++ n ∷ []
-    more = sym (map-id _) ∙ map-range_with_len_more (λ x. x) 0 n n (omega arith) ∙ ap (λ l. l ++ n ∷ []) (map-id _)
+range_more : (n : ℕ) → range_with_len 0 (n + 1) ≡ range_with_len 0 n ++ n ∷ []
+range_more n = sym (map-id _) ∙ map-range_with_len_more (λ x. x) 0 n n (omega arith) ∙ ap (λ l. l ++ n ∷ []) (map-id _)
 
-    last : (b : Bool) → length (cond b (n ∷ []) []) ≡ one b
-    last true = refl
-    last false = refl
+-- the pairs of one meter more
+pub differing_more : (P Q : ℕ → ℕ) (n : ℕ) → differing P Q (n + 1) ≡ differing P Q n + (one (lost P Q n) + one (lost Q P n))
+differing_more P Q n = ap (differing P Q) (add-one n) ∙ omega arith
+
+-- what a meter adds to the count
+abbrev pub differing_at : (ℕ → ℕ) → (ℕ → ℕ) → ℕ → ℕ
+differing_at P Q v = one (lost P Q v) + one (lost Q P v)
+
+-- the count as a chain of iterators sums it up
+pub differing_sum : (P Q : ℕ → ℕ) (n : ℕ) → sum_by (differing_at P Q) (range_with_len 0 n) ≡ differing P Q n
+differing_sum P Q zero = refl
+differing_sum P Q (suc n) =
+    ap (λ k. sum_by (differing_at P Q) (range_with_len 0 k)) (sym (add-one n)) ∙ ap (sum_by (differing_at P Q)) (range_more n) ∙
+    omega (arith, sum_by-append (differing_at P Q) (range_with_len 0 n) (n ∷ []), differing_sum P Q n)
+
+tally_le : (t : ℕ → Bool) (n : ℕ) → tally t n ≤ n
+tally_le t zero = omega arith
+tally_le t (suc n) = omega (arith, tally_le t n, one_le (t n))
+
+pub differing_fits : (P Q : ℕ → ℕ) (n top : ℕ) → 2 * n < top → sum_by (differing_at P Q) (range_with_len 0 n) < top
+differing_fits P Q n top lt = omega (arith, differing_sum P Q n, tally_le (lost P Q) n, tally_le (lost Q P) n)

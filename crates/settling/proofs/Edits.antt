@@ -145,7 +145,7 @@ finish k k' D r s p t =
 
 -- the same kept pairs over another copy
 abbrev over : Mates → KeptPairs → KeptPairs
-over c k = record { choice = c; levels = k.levels }
+over c k = record { choice = c; heights = k.heights }
 
 -- ## add
 

@@ -1,5 +1,5 @@
 -- A copy of a choice with the pairs that are kept of it: what it answers, and what holds of it from call to call.
-use Rattle.std.specs.Prelude.{◌≡◌, ℕ, ◌+◌, ◌-◌, ◌<◌, Bool, cond, not, ◌&&◌, ◌≢◌, ◌⊎◌, List, Some, None, Option, ◌==◌, slice_index_or}
+use Rattle.std.specs.Prelude.{◌≡◌, ℕ, zero, suc, ◌+◌, ◌-◌, ◌<◌, Bool, cond, not, ◌&&◌, ◌≢◌, ◌⊎◌, List, Some, None, Option, ◌==◌, slice_index_or}
 use Rattle.proposals.specs.declared.proposals.Proposal.{Proposal}
 use Rattle.matching.specs.Lists.{◌∈◌}
 use Rattle.matching.specs.Matching.{Choice}
@@ -9,9 +9,14 @@ use Rattle.choices.specs.Mates.{entry, mate_shown, in_table, Holds, alone}
 use Rattle.choices.specs.Showing.{Shows}
 use Rattle.settling.specs.declared.kept_pairs.KeptPairs.{KeptPairs}
 
+-- the level that a height stands for: none for 0, else one less
+abbrev pub level_at : ℕ → Option ℕ
+level_at zero = None
+level_at (suc l) = Some l
+
 -- the level of the meter's kept pair, if it is in one
 abbrev pub kept_at : KeptPairs → ℕ → Option ℕ
-kept_at k v = slice_index_or k.levels v None
+kept_at k v = level_at (slice_index_or k.heights v 0)
 
 -- 0 for no level, else one more than the level
 abbrev pub height : Option ℕ → ℕ

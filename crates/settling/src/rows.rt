@@ -2,7 +2,7 @@ ghost use Rattle.std.specs.Prelude.{◌≡◌, ℕ, ◌<◌, ◌≤◌, Option, 
 ghost use Rattle.std.specs.Option.{unwrap_or};
 ghost use Rattle.choices.specs.Mates.{entry};
 ghost use Rattle.settling.specs.Kept.{partner_shown, Sound};
-ghost use Rattle.settling.specs.Counts.{tally, lost, differing};
+ghost use Rattle.settling.specs.Counts.{lost, differing};
 ghost use Rattle.settling.specs.Following.{Involution, Forgotten, Learnt, Follows, row};
 ghost use Rattle.settling.specs.declared.kept_pairs.KeptPairs.{KeptPairs as Kept};
 
@@ -38,15 +38,9 @@ fn is_lost(a: &Row, b: &Row, meter: u32) -> bool
 pub fn count_differing(a: &Row, b: &Row) -> u32
     ensures { result ≡ differing (row a.now) (row b.now) 256 }
 {
-    count_lost(a, b) + count_lost(b, a)
-}
-
-/// How many pairs of `a` are none of `b`.
-fn count_lost(a: &Row, b: &Row) -> u32
-    ensures count { result ≡ tally (lost (row a.now) (row b.now)) 256 }
-    ensures few { result ≤ 256 }
-{
-    (0..METERS).filter(|meter| is_lost(a, b, *meter)).count() as u32
+    (0..METERS)
+        .map(|meter| u32::from(is_lost(a, b, meter)) + u32::from(is_lost(b, a, meter)))
+        .sum()
 }
 
 impl KeptPairs {

@@ -1,8 +1,9 @@
 -- The lines of a text, followed one after another.
-use Rattle.std.proofs.Common.{◌≡◌, ℕ, ◌+◌, ◌≤◌, Bool, true, false, not, eqb, List, [], ◌∷◌, length, sym, refl, ap, ◌∙◌, arith}
+use Rattle.std.proofs.Common.{◌≡◌, ℕ, ◌+◌, ◌≤◌, Bool, true, false, not, eqb, List, [], ◌∷◌, length, sym, refl, ap, ◌∙◌, subst, arith}
 use Rattle.std.proofs.lemmas.Bool.{and_from, and_parts, both_ways, eq-eqb, eqb-true, le-ltb, ltb-false, ltb-true, not-true}
+use Rattle.update_text.specs.Cuts.{cut}
 use Rattle.update_text.specs.Lines.{Counted}
-use Rattle.update_text.specs.Names.{NamesLine}
+use Rattle.update_text.specs.Names.{Named, NamesLine}
 use Rattle.update_text.specs.Steps.{Started, TookPart, is_end, rest_of}
 use Rattle.update_text.specs.Texts.{AtEnd, Headed, LineAt, lines_of}
 use Rattle.update_text.specs.declared.columns.Columns.{Columns}
@@ -36,6 +37,13 @@ module _ (text : List ℕ) (few : length text ≤ 32768) (s : Parts) (p : Part) 
 
   pub headed_by : (columns : Columns) → NamesLine columns p → Headed columns text
   headed_by columns names = (p, first_line, names)
+
+-- two readings of a line are one line
+pub same_names : (text : List ℕ) (columns : Columns) (p q : Part) → LineAt text 0 p → LineAt text 0 q → NamesLine columns p → NamesLine columns q
+same_names text columns p q lp lq h = record {
+  fed = lq.fed ∙ sym lp.fed ∙ h.fed;
+  named = subst (λ bs. Named columns (cut 59 bs)) (sym lp.bytes ∙ lq.bytes) h.named;
+}
 
 nil : (xs : List ℕ) → length xs ≡ 0 → xs ≡ []
 nil [] e = refl

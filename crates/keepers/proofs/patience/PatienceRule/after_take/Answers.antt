@@ -1,3 +1,4 @@
+use Rattle.std.proofs.Common.{rules}
 use Rattle.keepers.proofs.PatientCalls.{rejoined_at, take_done, retake_done}
 use Rattle.keepers.proofs.patience.PatienceRule.after_take.Goals as goal
 
@@ -6,8 +7,8 @@ returns-then-part_if_mates c = λ k pair ok closed.
     let choice = c.part_if_mates.new.self in
     let half = c.rejoin.new.self in
     let whole = c.rejoin-then-part_if_mates.new.self in
-    let low = rejoined_at _ half _ _ _ _ c.low.ensures c.level-level.ensures.value c.rejoin.ensures in
-    let high = rejoined_at half whole _ _ _ _ c.high.ensures c.level-level.ensures.value c.rejoin-then-part_if_mates.ensures in
+    let low = rejoined_at _ half _ _ _ _ (search rules) c.level-level.ensures.value c.rejoin.ensures in
+    let high = rejoined_at half whole _ _ _ _ (search rules) c.level-level.ensures.value c.rejoin-then-part_if_mates.ensures in
     retake_done k c.args.store.now choice pair c.args.closed _ closed c.part_if_mates.ensures.parted ok half whole low high c.if-part_if_mates.true
 
 pub returns-else-part_if_mates : goal.returns-else-part_if_mates

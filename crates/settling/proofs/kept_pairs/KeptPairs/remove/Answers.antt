@@ -1,5 +1,4 @@
-use Rattle.std.proofs.Common.{◌≡◌, true, eqb, Some, sym, ap, ◌∙◌, subst}
-use Rattle.std.specs.Option.{option_eq}
+use Rattle.std.proofs.Common.{◌≡◌, true, sym, subst, rules}
 use Rattle.choices.specs.Mates.{entry}
 use Rattle.settling.specs.declared.kept_pairs.KeptPairs.{KeptPairs}
 use Rattle.settling.specs.Kept.{are_mates, Sound}
@@ -19,8 +18,8 @@ returns-clause-removed c =
     elim c.if-eq.branch [
       | then-eq w ↦
           subst (λ (q : KeptPairs). Sound k → are_mates (entry k.choice) l a b ≡ true → LetGo k q a b l) (sym w.self-is)
-          (was_kept k w.release.new.self a b l w.release.result w.release.ensures (kept_is _ l (sym (ap (λ o. option_eq eqb o (Some l)) c.kept_level.ensures) ∙ sym c.eq.ensures ∙ w.if-eq.true)))
-      | else-eq w ↦ was_loose k k₁ a b l w.self-is (kept_not _ l (sym (ap (λ o. option_eq eqb o (Some l)) c.kept_level.ensures) ∙ sym c.eq.ensures ∙ w.if-eq.false))
+          (was_kept k w.release.new.self a b l w.release.result w.release.ensures (kept_is _ l (search (rules, w.if-eq.true))))
+      | else-eq w ↦ was_loose k k₁ a b l w.self-is (kept_not _ l (search (rules, w.if-eq.false)))
     ]
     in
     remove_sound k k₁ c.resettle.new.self c.resettle-2.new.self c.part.new.self a b l go
