@@ -53,6 +53,7 @@ impl KeptPairs {
     fn kept_level(&self, meter: u32) -> Option<u32>
         ensures { result ≡ kept_at self.now meter }
     {
+        // A match, since by `checked_sub` the walks over all meters took longer than over Options.
         match *self.heights.get(meter as usize)? {
             0 => None,
             height => Some(u32::from(height) - 1),
